@@ -1,0 +1,4 @@
+pub mod Lay
+pub mod LayLaws
+pub mod Answers
+pub mod AnswersLaws
