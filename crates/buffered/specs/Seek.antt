@@ -1,6 +1,7 @@
 -- Landing places (document 01, "A seek's landing place"): the target is worked out in the integers, then held against 0 and the image size.
 use Prim.Native.Nat.{ℕ}
 use mathlib.Core.Path.{_≡_}
+use mathlib.Core.Bool.{Bool, true}
 use mathlib.Core.List.{[], _∷_}
 use lib.Dec.{ltb}
 use lib.IntN.{ℤ, pos, negsuc, _+ℤ_}
@@ -18,10 +19,17 @@ target (Start place) length position = pos place
 target (End offset) length position = pos length +ℤ offset
 target (Current offset) length position = pos position +ℤ offset
 
--- 11 below 0 or past the size
+-- below 0 or past the size
+abbrev pub misses : (size : ℕ) → ℤ → Bool
+misses size (pos place) = ltb size place
+misses size (negsuc n) = true
+
+abbrev pub placeOf : ℤ → ℕ
+placeOf (pos place) = place
+placeOf (negsuc n) = 0
+
 abbrev pub land : (size : ℕ) → ℤ → Answer
-land size (pos place) = reply (first ((ltb size place ⇒ 11) ∷ [])) (place ∷ [])
-land size (negsuc n) = refused 11
+land size z = reply (first ((misses size z ⇒ 11) ∷ [])) (placeOf z ∷ [])
 
 abbrev pub landedAs : Landing → Answer
 landedAs (At place) = accepted (place ∷ [])

@@ -1,7 +1,7 @@
 -- Answers in document 01's terms: the values that a call reports, or the number of its refusal. Refusals are a row of checks, each with its number,
 -- tried in the order in which the document names them. The laws are in `AnswersLaws`.
 use Prim.Native.Nat.{ℕ, zero, suc}
-use mathlib.Core.Bool.{Bool, cond}
+use mathlib.Core.Bool.{Bool, true, cond, _&&_}
 use mathlib.Core.List.{List, [], _∷_}
 
 pub data Answer : Type 0 where
@@ -23,6 +23,16 @@ pub data Check : Type 0 where
 abbrev pub first : List Check → ℕ
 first [] = 0
 first ((bad ⇒ no′) ∷ checks) = cond bad no′ (first checks)
+
+-- ---- tests that must all hold
+
+abbrev pub allFrom : Bool → List Bool → Bool
+allFrom sofar [] = sofar
+allFrom sofar (test ∷ tests) = allFrom (sofar && test) tests
+
+abbrev pub all : List Bool → Bool
+all [] = true
+all (test ∷ tests) = allFrom test tests
 
 -- ---- what follows from the number: the answer, and whether anything changes
 

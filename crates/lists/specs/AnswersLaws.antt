@@ -1,10 +1,10 @@
--- What a row of checks tells where none of them is true.
-use Prim.Native.Nat.{zero, suc}
+-- What a row of checks tells where none of them is true, and what tests tell that all hold.
+use Prim.Native.Nat.{ℕ, zero, suc}
 use mathlib.Core.Path.{_≡_, refl}
-use mathlib.Core.Bool.{true, false}
+use mathlib.Core.Bool.{Bool, true, false, _&&_}
 use mathlib.Core.List.{List, [], _∷_}
 use native.Mathlib.Omega.{arith}
-use Rattle.lists.specs.Answers.{Check, _⇒_, first}
+use Rattle.lists.specs.Answers.{Check, _⇒_, first, allFrom, all}
 
 -- each check is false
 abbrev pub Clear : List Check → Type 0
@@ -17,3 +17,36 @@ clear [] e = tt
 clear ((bad ⇒ zero) ∷ checks) e = tt
 clear ((true ⇒ suc n) ∷ checks) e = absurd (omega arith)
 clear ((false ⇒ suc n) ∷ checks) e = (refl, clear checks e)
+
+-- ---- each test holds
+
+abbrev pub Every : List Bool → Type 0
+Every [] = Unit {0}
+Every (test ∷ tests) = (test ≡ true) × Every tests
+
+and-left : (a b : Bool) → (a && b) ≡ true → a ≡ true
+and-left true b e = refl
+and-left false b e = e
+
+and-right : (a b : Bool) → (a && b) ≡ true → b ≡ true
+and-right true b e = e
+and-right false b e = let z : _≡_ {A = ℕ} 0 1 = cc in absurd (omega arith)
+
+every-from : (a : Bool) (tests : List Bool) → allFrom a tests ≡ true → (a ≡ true) × Every tests
+every-from a [] e = (e, tt)
+every-from a (test ∷ tests) e = let r = every-from (a && test) tests e in (and-left a test (r .0), (and-right a test (r .0), r .1))
+
+pub every : (tests : List Bool) → all tests ≡ true → Every tests
+every [] e = tt
+every (test ∷ tests) e = every-from test tests e
+
+all-from : (a : Bool) (tests : List Bool) → a ≡ true → Every tests → allFrom a tests ≡ true
+all-from a [] e h = e
+all-from a (test ∷ tests) e h = all-from (a && test) tests (rw (e, h .0)) (h .1)
+
+pub all-hold : (tests : List Bool) → Every tests → all tests ≡ true
+all-hold [] h = refl
+all-hold (test ∷ tests) h = all-from test tests (h .0) (h .1)
+
+pub both : (a b : Bool) → (a && b) ≡ true → (a ≡ true) × (b ≡ true)
+both a b e = (and-left a b e, and-right a b e)

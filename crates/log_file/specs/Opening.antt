@@ -1,0 +1,93 @@
+-- Opening a writer (document 01, "The writer", opening; "Numbers of refusal": 12, 4, 5).
+use Prim.Native.Nat.{ℕ, zero, suc, _+_, _-_, _*_, _/_, max}
+use mathlib.Core.List.{List, [], _∷_}
+use mathlib.Core.Bool.{_||_}
+use lib.ListN.{length, replicate}
+use lib.Dec.{ltb, leb}
+use Rattle.lists.specs.Lay.{lay}
+use Rattle.lists.specs.Answers.{_⇒_, first, reply, obey}
+use Rattle.buffered.specs.declared.Buffered.{Buffered}
+use Rattle.buffered.specs.Staging.{Store, store, flushed, writtenAll}
+use Rattle.log_file.specs.declared.state.LastId.{LastId}
+use Rattle.log_file.specs.declared.state.LastId.the-variants.{Nothing, Of}
+use Rattle.log_file.specs.declared.state.Moment.the-variants.{Idle}
+use Rattle.log_file.specs.declared.state.LogFileWriter.{LogFileWriter}
+use Rattle.log_file.specs.State.{Machine, machine}
+use Rattle.log_file.specs.Calls.{Called, after, heading}
+
+-- what two fresh openings share: id, last id, version info, preallocation
+pub record Terms : Type 0 where
+  pub id : ℕ
+  pub last : LastId
+  pub info : List ℕ
+  pub preallocate : ℕ
+
+-- padded = max(ceil(L/p), 1) × p
+unfoldable pub padded : (validated preallocate : ℕ) → ℕ
+padded l p = max ((l + p - 1) / p) 1 * p
+
+-- ---- the refusals: 12 for a range, 4 for too long an info, 5 for no room
+
+unfoldable pub openRefusal : Terms → (validated fileLength image staging : ℕ) → ℕ
+openRefusal o l f image staging =
+    first
+    ((ltb 1048576 image ⇒ 12) ∷ (ltb 65536 staging ⇒ 12) ∷ (ltb (o .preallocate) 1 ⇒ 12) ∷ (ltb 4294967295 (o .preallocate) ⇒ 12)
+    ∷ (ltb f l ⇒ 12) ∷ (ltb image f ⇒ 12)
+    ∷ (ltb 255 (length (o .info)) ⇒ 4)
+    ∷ (ltb image (padded l (o .preallocate)) ⇒ 5) ∷ (ltb image (5 + length (o .info)) ⇒ 5) ∷ [])
+
+-- ---- what an accepted opening does
+
+-- if padded ≥ F, bytes F to padded become 0, and then padded - F bytes from L on (where padded < F, padded - F is 0, and nothing is stored)
+unfoldable pub prepared : List ℕ → (padded′ validated fileLength : ℕ) → List ℕ
+prepared image p l f = lay (lay image f (replicate (p - f) 0)) l (replicate (p - f) 0)
+
+-- the file length becomes padded, unless it is longer; file position and synchronized number are L
+unfoldable pub unheaded : Terms → (validated fileLength : ℕ) → (image staging : List ℕ) → Store
+unheaded o l f image staging =
+    let p = padded l (o .preallocate) in
+    store (prepared image p l f) staging (record { length = max f p; position = l; staged = 0; synchronized = l })
+
+-- if L = 0 the header is written and flushed
+unfoldable pub headed : Terms → (validated : ℕ) → Store → Store
+headed o zero s = flushed (writtenAll s (heading (o .info)))
+headed o (suc l) s = s
+
+-- the version info, and zeros behind it
+abbrev pub kept : (info : List ℕ) → List ℕ
+kept info = lay (replicate 255 0) 0 info
+
+unfoldable pub openedMachine : Terms → (validated fileLength : ℕ) → (image staging : List ℕ) → Machine
+openedMachine o l f image staging =
+    let s = headed o l (unheaded o l f image staging) in
+    machine
+    (record {
+      id = o .id;
+      info = kept (o .info);
+      v = length (o .info);
+      size = length image;
+      capacity = length staging;
+      file = s .file;
+      last = o .last;
+      moment = Idle;
+    }) (s .image) (s .staging)
+
+-- ---- a refused opening: a state of zeros, idle; the buffers stay
+
+abbrev pub blank : LogFileWriter
+blank =
+    record {
+      id = 0;
+      info = replicate 255 0;
+      v = 0;
+      size = 0;
+      capacity = 0;
+      file = record { length = 0; position = 0; staged = 0; synchronized = 0 };
+      last = Nothing;
+      moment = Idle;
+    }
+
+unfoldable pub opened : Terms → (validated fileLength : ℕ) → (image staging : List ℕ) → Called
+opened o l f image staging =
+    let no′ = openRefusal o l f (length image) (length staging) in
+    after (reply no′ []) (obey no′ (machine blank image staging) (openedMachine o l f image staging))
