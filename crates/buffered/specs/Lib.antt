@@ -1,3 +1,4 @@
 pub mod Seek
 pub mod SeekLaws
 pub mod Staging
+pub mod WrittenLaws

@@ -84,14 +84,17 @@ writtenAll s (xs ∷ writes) = writtenAll (written s xs) writes
 
 -- ---- going back: the logical position becomes at most n, and so does the synchronized number; no byte changes
 
+abbrev pub numbersBack : Buffered → ℕ → Buffered
+numbersBack f n =
+    record {
+      length = f .length;
+      position = min (f .position) n;
+      staged = min (f .staged) (n - f .position);
+      synchronized = min (f .synchronized) n;
+    }
+
 unfoldable pub backTo : Store → ℕ → Store
-backTo s n =
-    store (s .image) (s .staging) (record {
-      length = s .file .length;
-      position = min (s .file .position) n;
-      staged = min (s .file .staged) (n - s .file .position);
-      synchronized = min (s .file .synchronized) n;
-    })
+backTo s n = store (s .image) (s .staging) (numbersBack (s .file) n)
 
 -- ---- sync to t: nothing if the synchronized number ≥ t; otherwise flush if file position < t, then the synchronized number becomes the file position
 

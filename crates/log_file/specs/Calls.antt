@@ -1,11 +1,9 @@
 -- What each call of a writer answers and leaves (document 01, "The writer"), for any state and any buffers: `called`. The laws are in `CallsLaws`.
 use Prim.Native.Nat.{ℕ, _+_, _-_, min}
-use mathlib.Core.Path.{_≡_}
 use mathlib.Core.Bool.{Bool, true, false, not}
-use mathlib.Core.List.{List, [], _∷_, _++_}
+use mathlib.Core.List.{List, [], _∷_}
 use lib.ListN.{length, take}
 use lib.Dec.{ltb}
-use lib.IntN.{ℤ}
 use Rattle.lists.specs.Answers.{Answer, Check, _⇒_, first, reply, obey}
 use Rattle.little_endian.specs.LittleEndian.{le}
 use Rattle.crc32c.specs.Crc.{crcAppend}

@@ -1,15 +1,13 @@
 -- Opening a writer (document 01, "The writer", opening; "Numbers of refusal": 12, 4, 5).
 use Prim.Native.Nat.{ℕ, zero, suc, _+_, _-_, _*_, _/_, max}
 use mathlib.Core.List.{List, [], _∷_}
-use mathlib.Core.Bool.{_||_}
 use lib.ListN.{length, replicate}
-use lib.Dec.{ltb, leb}
+use lib.Dec.{ltb}
 use Rattle.lists.specs.Lay.{lay}
 use Rattle.lists.specs.Answers.{_⇒_, first, reply, obey}
-use Rattle.buffered.specs.declared.Buffered.{Buffered}
 use Rattle.buffered.specs.Staging.{Store, store, flushed, writtenAll}
 use Rattle.log_file.specs.declared.state.LastId.{LastId}
-use Rattle.log_file.specs.declared.state.LastId.the-variants.{Nothing, Of}
+use Rattle.log_file.specs.declared.state.LastId.the-variants.{Nothing}
 use Rattle.log_file.specs.declared.state.Moment.the-variants.{Idle}
 use Rattle.log_file.specs.declared.state.LogFileWriter.{LogFileWriter}
 use Rattle.log_file.specs.State.{Machine, machine}

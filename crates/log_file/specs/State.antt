@@ -1,11 +1,10 @@
 -- The writer and its buffers, and the rules that every state keeps (document 01, "Numbers of refusal", ranges). The laws are in `StateLaws`.
 use Prim.Native.Nat.{ℕ, _+_, _-_}
 use mathlib.Core.Bool.{Bool, _&&_}
-use mathlib.Core.List.{List, [], _∷_, _++_}
+use mathlib.Core.List.{List, [], _∷_}
 use lib.ListN.{length}
 use lib.Dec.{leb, eqb}
 use Rattle.lists.specs.Answers.{all}
-use Rattle.buffered.specs.declared.Buffered.{Buffered}
 use Rattle.buffered.specs.Staging.{Store, store, logicalPosition}
 use Rattle.log_file.specs.declared.state.Moment.{Moment}
 use Rattle.log_file.specs.declared.state.Moment.the-variants.{Idle, InEntry, InChunk}
