@@ -1,6 +1,6 @@
 // internal: what stands between the writer and its image (okaywal's buffered.rs). Image and staging are lent, the numbers go by value.
 ghost use mathlib.Core.Path.{_≡_};
-ghost use Prim.Native.Nat.{_+_, _-_, _≤_, min, max};
+ghost use Prim.Native.Nat.{_+_, _≤_};
 ghost use lib.ListN.{length, take, drop, replicate};
 ghost use Rattle.lists.specs.Lay.{lay};
 ghost use Rattle.buffered.specs.Staging.{store, flushed, direct, staged, written, synchronized, numbersBack, Room};
@@ -13,25 +13,6 @@ pub struct Buffered {
     pub position: usize,
     pub staged: usize,
     pub synchronized: usize,
-}
-
-fn larger(a: usize, b: usize) -> usize
-    ensures { λ r. ⌜ r ≡ max a b ⌝ }
-{
-    if a <= b { b } else { a }
-}
-
-fn smaller(a: usize, b: usize) -> usize
-    ensures { λ r. ⌜ r ≡ min a b ⌝ }
-{
-    if a <= b { a } else { b }
-}
-
-// a - b, or 0.
-fn less(a: usize, b: usize) -> usize
-    ensures { λ r. ⌜ r ≡ a - b ⌝ }
-{
-    if a <= b { 0 } else { a - b }
 }
 
 // Every store to an image goes through here, in ascending order.
@@ -52,7 +33,7 @@ impl Buffered {
         let n = self.staged;
         put(image, at, &staging[..n]);
         Buffered {
-            length: larger(self.length, at + n),
+            length: lists::larger(self.length, at + n),
             position: at + n,
             staged: 0,
             synchronized: self.synchronized,
@@ -68,7 +49,7 @@ impl Buffered {
         let at = f.position;
         put(image, at, bytes);
         Buffered {
-            length: larger(f.length, at + bytes.len()),
+            length: lists::larger(f.length, at + bytes.len()),
             position: at + bytes.len(),
             staged: f.staged,
             synchronized: f.synchronized,
@@ -165,9 +146,9 @@ impl Buffered {
     {
         Buffered {
             length: self.length,
-            position: smaller(self.position, n),
-            staged: smaller(self.staged, less(n, self.position)),
-            synchronized: smaller(self.synchronized, n),
+            position: lists::smaller(self.position, n),
+            staged: lists::smaller(self.staged, lists::less(n, self.position)),
+            synchronized: lists::smaller(self.synchronized, n),
         }
     }
 }
@@ -179,7 +160,7 @@ fn clear_by(image: &mut [u8], at: usize, count: usize, zeros: &[u8])
 {
     let mut i = 0;
     while i < count {
-        let k = smaller(count - i, 64);
+        let k = lists::smaller(count - i, 64);
         put(image, at + i, &zeros[..k]);
         i += k;
     }

@@ -1,9 +1,11 @@
 -- What a row of checks tells where none of them is true, and what tests tell that all hold.
-use Prim.Native.Nat.{ℕ, zero, suc}
-use mathlib.Core.Path.{_≡_, refl}
+use Prim.Native.Nat.{ℕ, zero, suc, _≤_, _<_}
+use mathlib.Core.Path.{_≡_, refl, sym}
 use mathlib.Core.Bool.{Bool, true, false, _&&_}
 use mathlib.Core.List.{List, [], _∷_}
 use native.Mathlib.Omega.{arith}
+use lib.Dec.{leb, ltb}
+use borrow.Author.Tests.{le-leb, lt-leb, leb-true, leb-false, lt-ltb, le-ltb, ltb-true, ltb-false}
 use Rattle.lists.specs.Answers.{Check, _⇒_, first, allFrom, all}
 
 -- each check is false
@@ -50,3 +52,29 @@ all-hold (test ∷ tests) h = all-from test tests (h .0) (h .1)
 
 pub both : (a b : Bool) → (a && b) ≡ true → (a ≡ true) × (b ≡ true)
 both a b e = (and-left a b e, and-right a b e)
+
+-- all tests, the first by itself
+all-from-and : (a : Bool) (tests : List Bool) → allFrom a tests ≡ (a && all tests)
+all-from-and true [] = refl
+all-from-and false [] = refl
+all-from-and true (test ∷ tests) = refl
+all-from-and false (test ∷ tests) = none tests
+  where
+    none : (rest : List Bool) → allFrom false rest ≡ false
+    none [] = refl
+    none (b ∷ rest) = none rest
+
+pub all-cons : (a : Bool) (tests : List Bool) → all (a ∷ tests) ≡ (a && all tests)
+all-cons a tests = all-from-and a tests
+
+-- ---- a test that says the same of other numbers
+
+same-bool : (x y : Bool) → (x ≡ true → y ≡ true) → (x ≡ false → y ≡ false) → x ≡ y
+same-bool true y f g = sym (f refl)
+same-bool false y f g = sym (g refl)
+
+pub same-ltb : (a b c d : ℕ) → (a < b → c < d) → (b ≤ a → d ≤ c) → ltb a b ≡ ltb c d
+same-ltb a b c d f g = same-bool (ltb a b) (ltb c d) (λ e. lt-ltb c d (f (ltb-true a b e))) (λ e. le-ltb c d (g (ltb-false a b e)))
+
+pub same-leb : (a b c d : ℕ) → (a ≤ b → c ≤ d) → (b < a → d < c) → leb a b ≡ leb c d
+same-leb a b c d f g = same-bool (leb a b) (leb c d) (λ e. le-leb c d (f (leb-true a b e))) (λ e. lt-leb c d (g (leb-false a b e)))

@@ -12,12 +12,12 @@ use Rattle.buffered.specs.declared.Buffered.{Buffered}
 use Rattle.buffered.specs.declared.seek.SeekFrom.{SeekFrom}
 use Rattle.buffered.specs.Seek.{target, misses, placeOf}
 use Rattle.buffered.specs.Staging.{Store, flushed, writtenAll, backTo, synchronized}
-use Rattle.log_file.specs.declared.state.LastId.{LastId}
-use Rattle.log_file.specs.declared.state.LastId.the-variants.{Nothing, Of}
-use Rattle.log_file.specs.declared.state.Moment.{Moment}
-use Rattle.log_file.specs.declared.state.Moment.the-variants.{Idle, InEntry, InChunk}
-use Rattle.log_file.specs.declared.state.LogFileWriter.{LogFileWriter}
-use Rattle.log_file.specs.State.{Machine, machine, storeOf, position, valid}
+use Rattle.log_file.specs.declared.LastId.{LastId}
+use Rattle.log_file.specs.declared.LastId.the-variants.{Nothing, Of}
+use Rattle.log_file.specs.declared.Moment.{Moment}
+use Rattle.log_file.specs.declared.Moment.the-variants.{Idle, InEntry, InChunk}
+use Rattle.log_file.specs.declared.LogFileWriter.{LogFileWriter}
+use Rattle.log_file.specs.State.{Machine, machine, storeOf, position, validWith}
 
 pub data Call : Type 0 where
   beginEntry : (id : ℕ) → Call
@@ -85,8 +85,12 @@ checks w flush = []
 checks w (synchronize t) = []
 checks w (landing from) = (misses (w .size) (target from (w .file .length) (position w)) ⇒ 11) ∷ []
 
+-- by the lengths of the buffers
+abbrev pub refusalWith : LogFileWriter → (image staging : ℕ) → Call → ℕ
+refusalWith w image staging c = first ((not (validWith w image staging) ⇒ 12) ∷ checks w c)
+
 unfoldable pub refusal : Machine → Call → ℕ
-refusal m c = first ((not (valid m) ⇒ 12) ∷ checks (m .writer) c)
+refusal m c = refusalWith (m .writer) (length (m .image)) (length (m .staging)) c
 
 -- ---- what an accepted call reports
 

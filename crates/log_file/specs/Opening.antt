@@ -6,10 +6,10 @@ use lib.Dec.{ltb}
 use Rattle.lists.specs.Lay.{lay}
 use Rattle.lists.specs.Answers.{_⇒_, first, reply, obey}
 use Rattle.buffered.specs.Staging.{Store, store, flushed, writtenAll}
-use Rattle.log_file.specs.declared.state.LastId.{LastId}
-use Rattle.log_file.specs.declared.state.LastId.the-variants.{Nothing}
-use Rattle.log_file.specs.declared.state.Moment.the-variants.{Idle}
-use Rattle.log_file.specs.declared.state.LogFileWriter.{LogFileWriter}
+use Rattle.log_file.specs.declared.LastId.{LastId}
+use Rattle.log_file.specs.declared.LastId.the-variants.{Nothing}
+use Rattle.log_file.specs.declared.Moment.the-variants.{Idle}
+use Rattle.log_file.specs.declared.LogFileWriter.{LogFileWriter}
 use Rattle.log_file.specs.State.{Machine, machine}
 use Rattle.log_file.specs.Calls.{Called, after, heading}
 

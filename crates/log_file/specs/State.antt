@@ -6,9 +6,9 @@ use lib.ListN.{length}
 use lib.Dec.{leb, eqb}
 use Rattle.lists.specs.Answers.{all}
 use Rattle.buffered.specs.Staging.{Store, store, logicalPosition}
-use Rattle.log_file.specs.declared.state.Moment.{Moment}
-use Rattle.log_file.specs.declared.state.Moment.the-variants.{Idle, InEntry, InChunk}
-use Rattle.log_file.specs.declared.state.LogFileWriter.{LogFileWriter}
+use Rattle.log_file.specs.declared.Moment.{Moment}
+use Rattle.log_file.specs.declared.Moment.the-variants.{Idle, InEntry, InChunk}
+use Rattle.log_file.specs.declared.LogFileWriter.{LogFileWriter}
 
 -- a writer with the buffers that it is used with
 pub record Machine : Type 0 where
@@ -57,5 +57,8 @@ unfoldable pub ruled : LogFileWriter → Bool
 ruled w = all (numberRules w) && all (momentRules (w .moment) (position w) (w .size))
 
 -- and the buffers have the sizes at opening
+abbrev pub validWith : LogFileWriter → (image staging : ℕ) → Bool
+validWith w image staging = ruled w && eqb image (w .size) && eqb staging (w .capacity)
+
 unfoldable pub valid : Machine → Bool
-valid m = ruled (m .writer) && eqb (length (m .image)) (m .writer .size) && eqb (length (m .staging)) (m .writer .capacity)
+valid m = validWith (m .writer) (length (m .image)) (length (m .staging))

@@ -6,7 +6,7 @@ use lib.Dec.{eqb}
 use borrow.Author.Tests.{eqb-true, eq-eqb}
 use Rattle.lists.specs.Answers.{all}
 use Rattle.lists.specs.AnswersLaws.{Every, every, all-hold, both}
-use Rattle.log_file.specs.declared.state.LogFileWriter.{LogFileWriter}
+use Rattle.log_file.specs.declared.LogFileWriter.{LogFileWriter}
 use Rattle.log_file.specs.State.{Machine, position, numberRules, momentRules, ruled, valid}
 
 -- each of the state's own rules
