@@ -3,3 +3,4 @@ pub mod StateLaws
 pub mod Calls
 pub mod Opening
 pub mod Promises
+pub mod Reads

@@ -3,6 +3,9 @@ use Prim.Native.Nat.{ℕ}
 use mathlib.Core.Path.{_≡_}
 use mathlib.Core.List.{List, [], _∷_}
 use Rattle.lists.specs.Answers.{Answer, accepted, refused}
+use Rattle.buffered.specs.declared.seek.SeekFrom.{SeekFrom}
+use Rattle.buffered.specs.declared.seek.Landing.{Landing}
+use Rattle.buffered.specs.Seek.{landedAs}
 use Rattle.log_file.specs.declared.LogFileWriter.{LogFileWriter}
 use Rattle.log_file.specs.declared.Answer.{Answer as Reply}
 use Rattle.log_file.specs.declared.Answer.the-variants.{Accepted, Refused}
@@ -17,7 +20,7 @@ use Rattle.log_file.specs.declared.entries.CommitAnswer.{CommitAnswer}
 use Rattle.log_file.specs.declared.entries.CommitAnswer.the-variants.{Entry, Refused as CommitRefused}
 use Rattle.log_file.specs.declared.entries.Committed.{Committed}
 use Rattle.log_file.specs.State.{Machine, machine}
-use Rattle.log_file.specs.Calls.{Call, beginEntry, beginChunk, write, finish, commit, rollback, after, called}
+use Rattle.log_file.specs.Calls.{Call, beginEntry, beginChunk, write, finish, commit, rollback, recycle, flush, synchronize, landing, after, called}
 
 -- ---- answers, in document 01's numbers and values
 
@@ -61,3 +64,16 @@ CommitAllows w image staging r image′ staging′ = Allows w image staging comm
 
 abbrev pub RollbackAllows : LogFileWriter → (image staging : List ℕ) → Answered → (image′ staging′ : List ℕ) → Type 0
 RollbackAllows w image staging r image′ staging′ = Allows w image staging rollback (answeredAs (r .answer)) (r .writer) image′ staging′
+
+abbrev pub RecycleAllows : LogFileWriter → (image staging : List ℕ) → (id : ℕ) → Answered → (image′ staging′ : List ℕ) → Type 0
+RecycleAllows w image staging id r image′ staging′ = Allows w image staging (recycle id) (answeredAs (r .answer)) (r .writer) image′ staging′
+
+abbrev pub FlushAllows : LogFileWriter → (image staging : List ℕ) → Answered → (image′ staging′ : List ℕ) → Type 0
+FlushAllows w image staging r image′ staging′ = Allows w image staging flush (answeredAs (r .answer)) (r .writer) image′ staging′
+
+abbrev pub SynchronizeAllows : LogFileWriter → (image staging : List ℕ) → (t : ℕ) → Answered → (image′ staging′ : List ℕ) → Type 0
+SynchronizeAllows w image staging t r image′ staging′ = Allows w image staging (synchronize t) (answeredAs (r .answer)) (r .writer) image′ staging′
+
+-- a landing hands back no writer: it leaves the one that it was given, and the buffers
+abbrev pub SeekAllows : LogFileWriter → (image staging : List ℕ) → SeekFrom → Landing → Type 0
+SeekAllows w image staging from r = Allows w image staging (landing from) (landedAs r) w image staging

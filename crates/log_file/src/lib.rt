@@ -2,12 +2,15 @@
 // any arguments: with what it did, or with the number of its refusal, and then nothing has changed.
 ghost use mathlib.Core.Path.{_≡_};
 ghost use lib.ListN.{length};
+ghost use Prim.Native.Nat.{_+_, _≤_};
 ghost use Rattle.lists.specs.Answers.{all};
+ghost use Rattle.buffered.specs.Staging.{store, writtenAll, Room};
 ghost use Rattle.log_file.specs.State.{numberRules, reserve, openRules, momentRules, ruled, validWith};
-ghost use Rattle.log_file.specs.Calls.{rewritten, isIdle, inEntry, inChunk, entryId, entryStart, lengthOf, owedOf, sumOf};
+ghost use Rattle.log_file.specs.Calls.{heading, rewritten, isIdle, inEntry, inChunk, entryId, entryStart, lengthOf, owedOf, sumOf};
 use buffered::Buffered;
 
 pub mod entries;
+pub mod file;
 
 // The id of the last entry that was committed.
 pub enum LastId {
@@ -242,4 +245,15 @@ fn rewrite(w: LogFileWriter, id: u64, file: Buffered, last: LastId, moment: Mome
         last,
         moment,
     }
+}
+
+// The header in its three writes: the mark and version 0, the length byte, the version info.
+fn put_header(file: Buffered, image: &mut [u8], staging: &mut [u8], info: &[u8]) -> Buffered
+    requires { ⌜ Room (store (now image) (now staging) file) (5 + length (now info)) × (length (now info) ≤ 255) ⌝ }
+    ensures { λ r. ⌜ store (now (image .exit)) (now (staging .exit)) r ≡ writtenAll (store (now (image .entry)) (now (staging .entry)) file) (heading (now (info .entry))) ⌝ }
+{
+    let magic = [0x6f, 0x6b, 0x77, 0];
+    let count = [info.len() as u8];
+    let next = file.write2(image, staging, &magic, &count);
+    next.write(image, staging, info)
 }

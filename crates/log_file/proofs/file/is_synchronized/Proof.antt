@@ -1,0 +1,29 @@
+use borrow.Author.Needs.{needs}
+use Rattle.log_file.proofs.file.is_synchronized.Statement.{statement}
+use Rattle.log_file.proofs.file.is_synchronized.Tie as tie
+use Rattle.log_file.proofs.file.is_synchronized.Reads as reads
+use Rattle.log_file.proofs.file.is_synchronized.Lts as lts
+use Rattle.log_file.proofs.rules_hold.Reads as rules-hold-reads
+
+-- src/file.rt:167:8
+rules-hold-requires : tie.Need-rules-hold-requires
+rules-hold-requires c κs = search needs
+
+-- src/file.rt:168:12
+add-if2 : tie.Need-add-if2
+add-if2 c = ?
+
+-- src/file.rt:169:13
+returns : tie.Need-returns
+returns c = ?
+
+-- src/file.rt:171:9
+returns-2 : tie.Need-returns-2
+returns-2 c = ?
+
+-- src/file.rt:164:1
+returns-3 : tie.Need-returns-3
+returns-3 c = ?
+
+pub is-synchronized-spec : {M : Type 1} → statement M
+is-synchronized-spec = tie.close (tie.spec rules-hold-requires add-if2 returns returns-2 returns-3)

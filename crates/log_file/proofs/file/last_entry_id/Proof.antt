@@ -1,0 +1,21 @@
+use borrow.Author.Needs.{needs}
+use Rattle.log_file.proofs.file.last_entry_id.Statement.{statement}
+use Rattle.log_file.proofs.file.last_entry_id.Tie as tie
+use Rattle.log_file.proofs.file.last_entry_id.Reads as reads
+use Rattle.log_file.proofs.file.last_entry_id.Lts as lts
+use Rattle.log_file.proofs.rules_hold.Reads as rules-hold-reads
+
+-- src/file.rt:180:8
+rules-hold-requires : tie.Need-rules-hold-requires
+rules-hold-requires c κs = search needs
+
+-- src/file.rt:182:9
+returns : tie.Need-returns
+returns c = ?
+
+-- src/file.rt:177:1
+returns-2 : tie.Need-returns-2
+returns-2 c = ?
+
+pub last-entry-id-spec : {M : Type 1} → statement M
+last-entry-id-spec = tie.close (tie.spec rules-hold-requires returns returns-2)

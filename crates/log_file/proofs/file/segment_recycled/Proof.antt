@@ -1,0 +1,53 @@
+use borrow.Author.Needs.{needs}
+use Rattle.log_file.proofs.file.segment_recycled.Statement.{statement}
+use Rattle.log_file.proofs.file.segment_recycled.Tie as tie
+use Rattle.log_file.proofs.file.segment_recycled.Reads as reads
+use Rattle.log_file.proofs.file.segment_recycled.Lts as lts
+use Rattle.buffered.proofs.Buffered.back_to.Reads as back-to-reads
+use Rattle.log_file.proofs.put_header.Reads as put-header-reads
+use Rattle.log_file.proofs.rewrite.Reads as rewrite-reads
+
+-- src/file.rt:59:9
+back-to-requires : tie.Need-back-to-requires
+back-to-requires c κs = search needs
+
+-- src/file.rt:62:57
+array-share-prefix-info : tie.Need-array-share-prefix-info
+array-share-prefix-info c = ?
+
+-- src/file.rt:62:57
+slice-aggregate-put-header : tie.Need-slice-aggregate-put-header
+slice-aggregate-put-header c = ?
+
+-- src/file.rt:62:9
+put-header-requires : tie.Need-put-header-requires
+put-header-requires c κs = ?
+
+-- src/file.rt:63:5
+rewrite-requires : tie.Need-rewrite-requires
+rewrite-requires c κs = search needs
+
+-- src/file.rt:54:1
+same-length : tie.Need-same-length
+same-length c = search needs
+
+-- src/file.rt:54:1
+same-length-2 : tie.Need-same-length-2
+same-length-2 c = search needs
+
+-- src/file.rt:54:1
+returns : tie.Need-returns
+returns c = ?
+
+pub segment-recycled-spec : {M : Type 1} → statement M
+segment-recycled-spec =
+    tie.close
+    (tie.spec
+    back-to-requires
+    array-share-prefix-info
+    slice-aggregate-put-header
+    put-header-requires
+    rewrite-requires
+    same-length
+    same-length-2
+    returns)

@@ -1,0 +1,52 @@
+use borrow.Author.Needs.{needs}
+use Rattle.log_file.proofs.put_header.Statement.{statement}
+use Rattle.log_file.proofs.put_header.Tie as tie
+use Rattle.log_file.proofs.put_header.Reads as reads
+use Rattle.log_file.proofs.put_header.Lts as lts
+use Rattle.buffered.proofs.Buffered.write.Reads as write-reads
+use Rattle.buffered.proofs.Buffered.write2.Reads as write2-reads
+
+-- src/lib.rt:256:18
+cast-t9 : tie.Need-cast-t9
+cast-t9 c = search needs
+
+-- src/lib.rt:257:44
+slice-aggregate-write2 : tie.Need-slice-aggregate-write2
+slice-aggregate-write2 c = search needs
+
+-- src/lib.rt:257:52
+slice-aggregate-write2-2 : tie.Need-slice-aggregate-write2-2
+slice-aggregate-write2-2 c = search needs
+
+-- src/lib.rt:257:9
+write2-requires : tie.Need-write2-requires
+write2-requires c κs = search needs
+
+-- src/lib.rt:258:5
+write-requires : tie.Need-write-requires
+write-requires c κs = ?
+
+-- src/lib.rt:251:1
+same-length : tie.Need-same-length
+same-length c = search needs
+
+-- src/lib.rt:251:1
+same-length-2 : tie.Need-same-length-2
+same-length-2 c = search needs
+
+-- src/lib.rt:251:1
+returns : tie.Need-returns
+returns c = ?
+
+pub put-header-spec : {M : Type 1} → statement M
+put-header-spec =
+    tie.close
+    (tie.spec
+    cast-t9
+    slice-aggregate-write2
+    slice-aggregate-write2-2
+    write2-requires
+    write-requires
+    same-length
+    same-length-2
+    returns)
