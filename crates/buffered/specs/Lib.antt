@@ -1,4 +1,5 @@
 pub mod Seek
 pub mod SeekLaws
 pub mod Staging
+pub mod StagingLaws
 pub mod WrittenLaws

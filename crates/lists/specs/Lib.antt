@@ -2,3 +2,5 @@ pub mod Lay
 pub mod LayLaws
 pub mod Answers
 pub mod AnswersLaws
+pub mod ChoiceLaws
+pub mod TakeLaws

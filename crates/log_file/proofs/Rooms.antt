@@ -4,6 +4,7 @@ use native.Mathlib.Omega.{arith}
 use mathlib.Core.Path.{_≡_, refl, sym, ap, _∙_}
 use mathlib.Core.Bool.{Bool, true, false, cond, not}
 use mathlib.Core.List.{List}
+use lib.ListN.{length}
 use borrow.Author.Tests.{leb-true, ltb-false}
 use Rattle.lists.specs.Answers.{first}
 use Rattle.lists.specs.AnswersLaws.{Every, clear}
@@ -92,3 +93,13 @@ commit-room m n e z =
     let a = accepted-by m commit n e z in
     let r = clear (checks (m .writer) commit) (a .1) in
     (reserved m 1 (a .0) (mark-reserve (m .writer .moment) (r .0)), omega (arith, leb-true))
+
+-- ---- calls that belong to any moment, and recycling
+
+pub any-room : (m : Machine) (c : Call) (n : ℕ) → n ≡ refusal m c → n ≡ 0 → Room (storeOf m) 0 × (position (m .writer) ≤ 1048576)
+any-room m c n e z =
+    let a = accepted-by m c n e z in
+    (reserved m 0 (a .0) (omega arith), omega (arith, leb-true))
+
+pub header-room : (m : Machine) (c : Call) (n : ℕ) → n ≡ refusal m c → n ≡ 0 → (m .writer .v ≤ 255) × (5 + m .writer .v ≤ length (m .image))
+header-room m c n e z = let a = accepted-by m c n e z in omega (arith, leb-true)

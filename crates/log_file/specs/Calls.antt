@@ -17,7 +17,7 @@ use Rattle.log_file.specs.declared.LastId.the-variants.{Nothing, Of}
 use Rattle.log_file.specs.declared.Moment.{Moment}
 use Rattle.log_file.specs.declared.Moment.the-variants.{Idle, InEntry, InChunk}
 use Rattle.log_file.specs.declared.LogFileWriter.{LogFileWriter}
-use Rattle.log_file.specs.State.{Machine, machine, storeOf, position, validWith}
+use Rattle.log_file.specs.State.{Machine, machine, storeOf, position, validWith, valid}
 
 pub data Call : Type 0 where
   beginEntry : (id : ℕ) → Call
@@ -85,12 +85,12 @@ checks w flush = []
 checks w (synchronize t) = []
 checks w (landing from) = (misses (w .size) (target from (w .file .length) (position w)) ⇒ 11) ∷ []
 
--- by the lengths of the buffers
+unfoldable pub refusal : Machine → Call → ℕ
+refusal m c = first ((not (valid m) ⇒ 12) ∷ checks (m .writer) c)
+
+-- the same, by the lengths of the buffers alone
 abbrev pub refusalWith : LogFileWriter → (image staging : ℕ) → Call → ℕ
 refusalWith w image staging c = first ((not (validWith w image staging) ⇒ 12) ∷ checks w c)
-
-unfoldable pub refusal : Machine → Call → ℕ
-refusal m c = refusalWith (m .writer) (length (m .image)) (length (m .staging)) c
 
 -- ---- what an accepted call reports
 

@@ -1,6 +1,15 @@
 pub mod State
 pub mod StateLaws
 pub mod Calls
+pub mod CallsLaws
 pub mod Opening
+pub mod OpeningLaws
 pub mod Promises
 pub mod Reads
+pub mod History
+pub mod HistoryLaws
+pub mod HistoryRanges
+pub mod Shows
+pub mod ShowsAnswers
+pub mod ShowsNext
+pub mod ShowsLaws

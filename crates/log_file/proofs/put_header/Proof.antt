@@ -1,3 +1,11 @@
+-- Three writes, and room for each.
+use native.Mathlib.Omega.{arith}
+use mathlib.Core.Path.{_≡_, refl, sym, ap, _∙_}
+use Rattle.buffered.specs.Staging.{Store, store, written, writtenAll, backTo, numbersBack}
+use Rattle.buffered.specs.WrittenLaws.{written-fits}
+use lib.ListN.{length, take, length-take}
+use mathlib.Core.List.{List, [], _∷_}
+use Prim.Native.Nat.{_+_}
 use borrow.Author.Needs.{needs}
 use Rattle.log_file.proofs.put_header.Statement.{statement}
 use Rattle.log_file.proofs.put_header.Tie as tie
@@ -24,7 +32,11 @@ write2-requires c κs = search needs
 
 -- src/lib.rt:258:5
 write-requires : tie.Need-write-requires
-write-requires c κs = ?
+write-requires c κs =
+    let a = c .before .before .before .before .before .before .before .before .before .before .before .before .before .before .args in
+    let n = length (a .info .now) in
+    rw (c .before .before .before .before .before .before .write2 .ensures)
+    (written-fits _ (n ∷ []) n (written-fits _ (0x6F ∷ 0x6B ∷ 0x77 ∷ 0 ∷ []) (1 + n) (record { image = omega arith; staging = c .before .before .before .before .before .before .before .before .before .before .before .before .before .before .pre .0 .staging })))
 
 -- src/lib.rt:251:1
 same-length : tie.Need-same-length
@@ -36,7 +48,10 @@ same-length-2 c = search needs
 
 -- src/lib.rt:251:1
 returns : tie.Need-returns
-returns c = ?
+unfolding writtenAll
+returns c =
+    let a = c .before .before .before .before .before .before .before .before .before .before .before .before .before .before .before .before .before .before .before .args in
+    c .before .before .before .before .write .ensures ∙ ap (λ (t : Store). written t (a .info .now)) (c .before .before .before .before .before .before .before .before .before .before .before .write2 .ensures)
 
 pub put-header-spec : {M : Type 1} → statement M
 put-header-spec =

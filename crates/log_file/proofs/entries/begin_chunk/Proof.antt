@@ -19,14 +19,14 @@ begin-chunk-refusal-requires c κs = search needs
 
 -- src/entries.rt:143:9
 returns : tie.Need-returns
-unfolding refusal
+unfolding refusal valid
 returns c =
     let a = c .before .before .before .before .args in
     is-refused (machine (a .w) (a .image .now) (a .staging .now)) (beginChunk (a .n)) _ (c .before .begin-chunk-refusal .ensures) (c .if1 .taken)
 
 -- src/entries.rt:149:17
 chunk-begun-requires : tie.Need-chunk-begun-requires
-unfolding refusal
+unfolding refusal valid
 chunk-begun-requires c κs =
     let a = c .before .before .before .before .before .before .args in
     begin-chunk-room (machine (a .w) (a .image .now) (a .staging .now)) (a .n) _ (c .before .before .before .begin-chunk-refusal .ensures) (c .before .before .if1 .left)
@@ -41,7 +41,7 @@ same-length-2 c = search needs
 
 -- src/entries.rt:138:1
 returns-2 : tie.Need-returns-2
-unfolding refusal reports
+unfolding refusal valid reports
 returns-2 c =
     let a = c .before .before .before .before .before .before .before .before .before .before .before .args in
     is-accepted (machine (a .w) (a .image .now) (a .staging .now)) (beginChunk (a .n)) _ _ _ (c .before .before .before .before .before .before .before .before .begin-chunk-refusal .ensures) (c .before .before .before .before .before .before .before .if1 .left) refl (c .before .before .before .before .chunk-begun .ensures)

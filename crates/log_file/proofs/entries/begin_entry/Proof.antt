@@ -19,14 +19,14 @@ begin-entry-refusal-requires c κs = search needs
 
 -- src/entries.rt:78:9
 returns : tie.Need-returns
-unfolding refusal
+unfolding refusal valid
 returns c =
     let a = c .before .before .before .before .args in
     is-refused (machine (a .w) (a .image .now) (a .staging .now)) (beginEntry (a .id)) _ (c .before .begin-entry-refusal .ensures) (c .if1 .taken)
 
 -- src/entries.rt:84:17
 entry-begun-requires : tie.Need-entry-begun-requires
-unfolding refusal
+unfolding refusal valid
 entry-begun-requires c κs =
     let a = c .before .before .before .before .before .before .args in
     begin-entry-room (machine (a .w) (a .image .now) (a .staging .now)) (a .id) _ (c .before .before .before .begin-entry-refusal .ensures) (c .before .before .if1 .left)
@@ -41,7 +41,7 @@ same-length-2 c = search needs
 
 -- src/entries.rt:73:1
 returns-2 : tie.Need-returns-2
-unfolding refusal reports
+unfolding refusal valid reports
 returns-2 c =
     let a = c .before .before .before .before .before .before .before .before .before .before .before .args in
     is-accepted (machine (a .w) (a .image .now) (a .staging .now)) (beginEntry (a .id)) _ _ _ (c .before .before .before .before .before .before .before .before .begin-entry-refusal .ensures) (c .before .before .before .before .before .before .before .if1 .left) refl (c .before .before .before .before .entry-begun .ensures)

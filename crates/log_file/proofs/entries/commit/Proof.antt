@@ -20,7 +20,7 @@ commit-refusal-requires c κs = search needs
 
 -- src/entries.rt:316:9
 returns : tie.Need-returns
-unfolding refusal
+unfolding refusal valid
 returns c =
     let a = c .before .before .before .before .args in
     is-refused (machine (a .w) (a .image .now) (a .staging .now)) commit _ (c .before .commit-refusal .ensures) (c .if1 .taken)
@@ -31,7 +31,7 @@ numbers-of-requires c κs = search needs
 
 -- src/entries.rt:324:18
 add-length : tie.Need-add-length
-unfolding refusal
+unfolding refusal valid
 add-length c =
     let a = c .before .before .before .before .before .before .args in
     let h = commit-room (machine (a .w) (a .image .now) (a .staging .now)) _ (c .before .before .before .commit-refusal .ensures) (c .before .before .if1 .left) in
@@ -39,7 +39,7 @@ add-length c =
 
 -- src/entries.rt:324:18
 add-length-2 : tie.Need-add-length-2
-unfolding refusal
+unfolding refusal valid
 add-length-2 c =
     let a = c .before .before .before .before .before .before .args in
     let h = commit-room (machine (a .w) (a .image .now) (a .staging .now)) _ (c .before .before .before .commit-refusal .ensures) (c .before .before .if1 .left) in
@@ -47,7 +47,7 @@ add-length-2 c =
 
 -- src/entries.rt:326:17
 entry-committed-requires : tie.Need-entry-committed-requires
-unfolding refusal
+unfolding refusal valid
 entry-committed-requires c κs =
     let a = c .before .before .before .before .before .before .before .before .args in
     (commit-room (machine (a .w) (a .image .now) (a .staging .now)) _ (c .before .before .before .before .before .commit-refusal .ensures) (c .before .before .before .before .if1 .left) .0, rw (c .before .before .before .numbers-of .ensures))
@@ -62,7 +62,7 @@ same-length-2 c = search needs
 
 -- src/entries.rt:311:1
 returns-2 : tie.Need-returns-2
-unfolding refusal reports
+unfolding refusal valid reports
 returns-2 c =
     let a = c .before .before .before .before .before .before .before .before .before .before .before .before .before .args in
     is-accepted (machine (a .w) (a .image .now) (a .staging .now)) commit _ _ _ (c .before .before .before .before .before .before .before .before .before .before .commit-refusal .ensures) (c .before .before .before .before .before .before .before .before .before .if1 .left) (rw (c .before .before .before .before .before .before .before .before .numbers-of .ensures)) (c .before .before .before .before .entry-committed .ensures)

@@ -20,7 +20,7 @@ finish-refusal-requires c κs = search needs
 
 -- src/entries.rt:267:9
 returns : tie.Need-returns
-unfolding refusal
+unfolding refusal valid
 returns c =
     let a = c .before .before .before .before .args in
     is-refused (machine (a .w) (a .image .now) (a .staging .now)) finish _ (c .before .finish-refusal .ensures) (c .if1 .taken)
@@ -31,7 +31,7 @@ numbers-of-requires c κs = search needs
 
 -- src/entries.rt:274:18
 add-offset : tie.Need-add-offset
-unfolding refusal
+unfolding refusal valid
 add-offset c =
     let a = c .before .before .before .before .before .before .args in
     let h = finish-room (machine (a .w) (a .image .now) (a .staging .now)) _ (c .before .before .before .finish-refusal .ensures) (c .before .before .if1 .left) in
@@ -43,7 +43,7 @@ cast-offset c = search needs
 
 -- src/entries.rt:274:18
 sub-offset : tie.Need-sub-offset
-unfolding refusal
+unfolding refusal valid
 sub-offset c =
     let a = c .before .before .before .before .before .before .before .args in
     let h = finish-room (machine (a .w) (a .image .now) (a .staging .now)) _ (c .before .before .before .before .finish-refusal .ensures) (c .before .before .before .if1 .left) in
@@ -51,7 +51,7 @@ sub-offset c =
 
 -- src/entries.rt:274:18
 sub-offset-2 : tie.Need-sub-offset-2
-unfolding refusal
+unfolding refusal valid
 sub-offset-2 c =
     let a = c .before .before .before .before .before .before .before .args in
     let h = finish-room (machine (a .w) (a .image .now) (a .staging .now)) _ (c .before .before .before .before .finish-refusal .ensures) (c .before .before .before .if1 .left) in
@@ -59,7 +59,7 @@ sub-offset-2 c =
 
 -- src/entries.rt:285:17
 chunk-finished-requires : tie.Need-chunk-finished-requires
-unfolding refusal
+unfolding refusal valid
 chunk-finished-requires c κs =
     let a = c .before .before .before .before .before .before .before .before .before .args in
     (finish-room (machine (a .w) (a .image .now) (a .staging .now)) _ (c .before .before .before .before .before .before .finish-refusal .ensures) (c .before .before .before .before .before .if1 .left) .0, rw (c .before .before .before .before .numbers-of .ensures))
@@ -74,7 +74,7 @@ same-length-2 c = search needs
 
 -- src/entries.rt:262:1
 returns-2 : tie.Need-returns-2
-unfolding refusal reports
+unfolding refusal valid reports
 returns-2 c =
     let a = c .before .before .before .before .before .before .before .before .before .before .before .before .before .before .args in
     is-accepted (machine (a .w) (a .image .now) (a .staging .now)) finish _ _ _ (c .before .before .before .before .before .before .before .before .before .before .before .finish-refusal .ensures) (c .before .before .before .before .before .before .before .before .before .before .if1 .left) (rw (c .before .before .before .before .before .before .before .before .before .numbers-of .ensures)) (c .before .before .before .before .chunk-finished .ensures)

@@ -21,7 +21,7 @@ rollback-refusal-requires c κs = search needs
 
 -- src/entries.rt:347:9
 returns : tie.Need-returns
-unfolding refusal
+unfolding refusal valid
 returns c =
     let a = c .before .before .before .before .args in
     is-refused (machine (a .w) (a .image .now) (a .staging .now)) rollback _ (c .before .rollback-refusal .ensures) (c .if1 .taken)
@@ -40,7 +40,7 @@ rewrite-requires c κs = search needs
 
 -- src/entries.rt:342:1
 returns-2 : tie.Need-returns-2
-unfolding refusal reports worked writes idAfter lastAfter momentAfter backTo
+unfolding refusal valid reports worked writes idAfter lastAfter momentAfter backTo
 returns-2 c =
     let a = c .before .before .before .before .before .before .before .before .args in
     is-accepted (machine (a .w) (a .image .now) (a .staging .now)) rollback _ _ _ (c .before .before .before .before .before .rollback-refusal .ensures) (c .before .before .before .before .if1 .left) refl

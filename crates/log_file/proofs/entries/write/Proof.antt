@@ -21,7 +21,7 @@ write-refusal-requires c κs = search needs
 
 -- src/entries.rt:206:9
 returns : tie.Need-returns
-unfolding refusal checks
+unfolding refusal valid checks
 returns c =
     let a = c .before .before .before .before .before .args in
     is-refused (machine (a .w) (a .image .now) (a .staging .now)) (write (a .offered .now)) _ (c .before .write-refusal .ensures) (c .if1 .taken)
@@ -40,7 +40,7 @@ smaller-requires c κs = search needs
 
 -- src/entries.rt:215:17
 piece-written-requires : tie.Need-piece-written-requires
-unfolding refusal checks
+unfolding refusal valid checks
 piece-written-requires c κs =
     let a = c .before .before .before .before .before .before .before .before .before .before .args in
     let k = rw (c .before .before .before .before .numbers-of .ensures) at (c .before .before .smaller .ensures) in
@@ -56,7 +56,7 @@ same-length-2 c = search needs
 
 -- src/entries.rt:201:1
 returns-2 : tie.Need-returns-2
-unfolding refusal reports checks
+unfolding refusal valid reports checks
 returns-2 c =
     let a = c .before .before .before .before .before .before .before .before .before .before .before .before .before .before .before .args in
     let k = rw (c .before .before .before .before .before .before .before .before .before .numbers-of .ensures) at (c .before .before .before .before .before .before .before .smaller .ensures) in

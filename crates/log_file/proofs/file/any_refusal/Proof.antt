@@ -1,3 +1,5 @@
+-- One check.
+use Rattle.log_file.specs.Calls.{recycle, flush, synchronize, landing, refusal, reports, checks, writes, worked, idAfter, lastAfter, momentAfter}
 use borrow.Author.Needs.{needs}
 use Rattle.log_file.proofs.file.any_refusal.Statement.{statement}
 use Rattle.log_file.proofs.file.any_refusal.Tie as tie
@@ -16,7 +18,8 @@ refuse-if-requires c κs = search needs
 
 -- src/file.rt:38:1
 returns : tie.Need-returns
-returns c = ?
+unfolding checks
+returns c = cc
 
 pub any-refusal-spec : {M : Type 1} → statement M
 any-refusal-spec = tie.close (tie.spec is-valid-requires refuse-if-requires returns)

@@ -1,3 +1,5 @@
+-- The row of checks, from its end.
+use Rattle.log_file.specs.Calls.{recycle, flush, synchronize, landing, refusal, reports, checks, writes, worked, idAfter, lastAfter, momentAfter}
 use borrow.Author.Needs.{needs}
 use Rattle.log_file.proofs.file.idle_refusal.Statement.{statement}
 use Rattle.log_file.proofs.file.idle_refusal.Tie as tie
@@ -25,7 +27,8 @@ refuse-if-requires-2 c κs = search needs
 
 -- src/file.rt:44:1
 returns : tie.Need-returns
-returns c = ?
+unfolding checks
+returns c = cc
 
 pub idle-refusal-spec : {M : Type 1} → statement M
 idle-refusal-spec =

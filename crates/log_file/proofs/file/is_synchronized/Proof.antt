@@ -1,3 +1,8 @@
+-- By whether the rules hold, and the two numbers are the same.
+use native.Mathlib.Omega.{arith}
+use mathlib.Core.Path.{_≡_, refl, sym, ap, _∙_}
+use Rattle.log_file.proofs.PlainReads.{reads, refuses, small}
+use borrow.Author.Tests.{eq-eqb, ne-eqb}
 use borrow.Author.Needs.{needs}
 use Rattle.log_file.proofs.file.is_synchronized.Statement.{statement}
 use Rattle.log_file.proofs.file.is_synchronized.Tie as tie
@@ -11,19 +16,19 @@ rules-hold-requires c κs = search needs
 
 -- src/file.rt:168:12
 add-if2 : tie.Need-add-if2
-add-if2 c = ?
+add-if2 c = let h = small _ (sym (c .before .before .rules-hold .ensures) ∙ c .before .if1 .taken) in omega arith
 
 -- src/file.rt:169:13
 returns : tie.Need-returns
-returns c = ?
+returns c = rw (eq-eqb _ _ (c .if2 .taken)) (reads _ _ (sym (c .before .before .before .before .rules-hold .ensures) ∙ c .before .before .before .if1 .taken))
 
 -- src/file.rt:171:9
 returns-2 : tie.Need-returns-2
-returns-2 c = ?
+returns-2 c = rw (ne-eqb _ _ (c .if2 .left)) (reads _ _ (sym (c .before .before .before .before .rules-hold .ensures) ∙ c .before .before .before .if1 .taken))
 
 -- src/file.rt:164:1
 returns-3 : tie.Need-returns-3
-returns-3 c = ?
+returns-3 c = refuses _ _ (sym (c .before .rules-hold .ensures) ∙ c .if1 .left)
 
 pub is-synchronized-spec : {M : Type 1} → statement M
 is-synchronized-spec = tie.close (tie.spec rules-hold-requires add-if2 returns returns-2 returns-3)

@@ -1,3 +1,6 @@
+-- By whether the rules hold.
+use mathlib.Core.Path.{_≡_, refl, sym, ap, _∙_}
+use Rattle.log_file.proofs.PlainReads.{reads, refuses, small}
 use borrow.Author.Needs.{needs}
 use Rattle.log_file.proofs.file.last_entry_id.Statement.{statement}
 use Rattle.log_file.proofs.file.last_entry_id.Tie as tie
@@ -11,11 +14,11 @@ rules-hold-requires c κs = search needs
 
 -- src/file.rt:182:9
 returns : tie.Need-returns
-returns c = ?
+returns c = reads _ _ (sym (c .before .rules-hold .ensures) ∙ c .if1 .taken)
 
 -- src/file.rt:177:1
 returns-2 : tie.Need-returns-2
-returns-2 c = ?
+returns-2 c = refuses _ _ (sym (c .before .rules-hold .ensures) ∙ c .if1 .left)
 
 pub last-entry-id-spec : {M : Type 1} → statement M
 last-entry-id-spec = tie.close (tie.spec rules-hold-requires returns returns-2)

@@ -1,3 +1,10 @@
+-- A refusal, or the deed.
+use native.Mathlib.Omega.{arith}
+use mathlib.Core.Path.{_≡_, refl, sym, ap, _∙_}
+use Rattle.log_file.proofs.Outcomes.{is-refused, is-accepted, is-acted}
+use Rattle.log_file.proofs.Rooms.{any-room, header-room}
+use Rattle.log_file.specs.State.{machine, validWith, valid, storeOf}
+use Rattle.log_file.specs.Calls.{recycle, flush, synchronize, landing, refusal, reports, checks, writes, worked, idAfter, lastAfter, momentAfter}
 use borrow.Author.Needs.{needs}
 use Rattle.log_file.proofs.file.recycle.Statement.{statement}
 use Rattle.log_file.proofs.file.recycle.Tie as tie
@@ -12,11 +19,17 @@ idle-refusal-requires c κs = search needs
 
 -- src/file.rt:72:9
 returns : tie.Need-returns
-returns c = ?
+unfolding refusal valid checks
+returns c =
+    let a = c .before .before .before .before .args in
+    is-refused (machine (a .w) (a .image .now) (a .staging .now)) (recycle (a .id)) _ (c .before .idle-refusal .ensures) (c .if1 .taken)
 
 -- src/file.rt:78:17
 segment-recycled-requires : tie.Need-segment-recycled-requires
-segment-recycled-requires c κs = ?
+unfolding refusal valid checks
+segment-recycled-requires c κs =
+    let a = c .before .before .before .before .before .before .args in
+    header-room (machine (a .w) (a .image .now) (a .staging .now)) (recycle (a .id)) _ (c .before .before .before .idle-refusal .ensures) (c .before .before .if1 .left)
 
 -- src/file.rt:67:1
 same-length : tie.Need-same-length
@@ -28,7 +41,10 @@ same-length-2 c = search needs
 
 -- src/file.rt:67:1
 returns-2 : tie.Need-returns-2
-returns-2 c = ?
+unfolding refusal valid reports checks
+returns-2 c =
+    let a = c .before .before .before .before .before .before .before .before .before .before .before .args in
+    is-accepted (machine (a .w) (a .image .now) (a .staging .now)) (recycle (a .id)) _ _ _ (c .before .before .before .before .before .before .before .before .idle-refusal .ensures) (c .before .before .before .before .before .before .before .if1 .left) refl (c .before .before .before .before .segment-recycled .ensures)
 
 pub recycle-spec : {M : Type 1} → statement M
 recycle-spec =

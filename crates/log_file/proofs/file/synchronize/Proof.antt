@@ -1,3 +1,11 @@
+-- A refusal, or the deed.
+use native.Mathlib.Omega.{arith}
+use mathlib.Core.Path.{_≡_, refl, sym, ap, _∙_}
+use Rattle.log_file.proofs.Outcomes.{is-refused, is-accepted, is-acted}
+use Rattle.log_file.proofs.Rooms.{any-room, header-room}
+use Rattle.log_file.specs.State.{machine, validWith, valid, storeOf}
+use Rattle.log_file.specs.Calls.{recycle, flush, synchronize, landing, refusal, reports, checks, writes, worked, idAfter, lastAfter, momentAfter}
+use Rattle.buffered.specs.Staging.{Store, store, written, writtenAll, backTo, numbersBack}
 use borrow.Author.Needs.{needs}
 use Rattle.log_file.proofs.file.synchronize.Statement.{statement}
 use Rattle.log_file.proofs.file.synchronize.Tie as tie
@@ -13,11 +21,17 @@ any-refusal-requires c κs = search needs
 
 -- src/file.rt:112:9
 returns : tie.Need-returns
-returns c = ?
+unfolding refusal valid checks
+returns c =
+    let a = c .before .before .before .before .args in
+    is-refused (machine (a .w) (a .image .now) (a .staging .now)) (synchronize (a .t)) _ (c .before .any-refusal .ensures) (c .if1 .taken)
 
 -- src/file.rt:118:9
 synchronize-requires : tie.Need-synchronize-requires
-synchronize-requires c κs = ?
+unfolding refusal valid checks
+synchronize-requires c κs =
+    let a = c .before .before .before .before .before .before .before .args in
+    any-room (machine (a .w) (a .image .now) (a .staging .now)) (synchronize (a .t)) _ (c .before .before .before .before .any-refusal .ensures) (c .before .before .before .if1 .left) .0
 
 -- src/file.rt:122:17
 rewrite-requires : tie.Need-rewrite-requires
@@ -33,7 +47,11 @@ same-length-2 c = search needs
 
 -- src/file.rt:107:1
 returns-2 : tie.Need-returns-2
-returns-2 c = ?
+unfolding refusal valid reports checks worked writes idAfter lastAfter momentAfter
+returns-2 c =
+    let a = c .before .before .before .before .before .before .before .before .before .before .before .args in
+    is-accepted (machine (a .w) (a .image .now) (a .staging .now)) (synchronize (a .t)) _ _ _ (c .before .before .before .before .before .before .before .before .any-refusal .ensures) (c .before .before .before .before .before .before .before .if1 .left) refl
+    (is-acted (machine (a .w) (a .image .now) (a .staging .now)) (synchronize (a .t)) _ _ _ _ (c .before .before .before .synchronize .ensures) (c .rewrite .ensures))
 
 pub synchronize-spec : {M : Type 1} → statement M
 synchronize-spec =
