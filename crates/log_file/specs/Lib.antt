@@ -2,9 +2,9 @@ pub mod State
 pub mod StateLaws
 pub mod Calls
 pub mod CallsLaws
+pub mod Promises
 pub mod Opening
 pub mod OpeningLaws
-pub mod Promises
 pub mod Reads
 pub mod History
 pub mod HistoryLaws

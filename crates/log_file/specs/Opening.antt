@@ -1,17 +1,20 @@
 -- Opening a writer (document 01, "The writer", opening; "Numbers of refusal": 12, 4, 5).
 use Prim.Native.Nat.{ℕ, zero, suc, _+_, _-_, _*_, _/_, max}
-use mathlib.Core.List.{List, [], _∷_}
+use mathlib.Core.Path.{_≡_}
+use mathlib.Core.List.{List, [], _∷_, _++_}
 use lib.ListN.{length, replicate}
 use lib.Dec.{ltb}
 use Rattle.lists.specs.Lay.{lay}
-use Rattle.lists.specs.Answers.{_⇒_, first, reply, obey}
+use Rattle.lists.specs.Answers.{Check, _⇒_, first, reply, obey}
 use Rattle.buffered.specs.Staging.{Store, store, flushed, writtenAll}
 use Rattle.log_file.specs.declared.LastId.{LastId}
 use Rattle.log_file.specs.declared.LastId.the-variants.{Nothing}
 use Rattle.log_file.specs.declared.Moment.the-variants.{Idle}
 use Rattle.log_file.specs.declared.LogFileWriter.{LogFileWriter}
+use Rattle.log_file.specs.declared.Answered.{Answered}
 use Rattle.log_file.specs.State.{Machine, machine}
 use Rattle.log_file.specs.Calls.{Called, after, heading}
+use Rattle.log_file.specs.Promises.{answeredAs}
 
 -- what two fresh openings share: id, last id, version info, preallocation
 pub record Terms : Type 0 where
@@ -26,13 +29,18 @@ padded l p = max ((l + p - 1) / p) 1 * p
 
 -- ---- the refusals: 12 for a range, 4 for too long an info, 5 for no room
 
+abbrev pub rangeChecks : (preallocate validated fileLength image staging : ℕ) → List Check
+rangeChecks p l f image staging =
+    (ltb 1048576 image ⇒ 12) ∷ (ltb 65536 staging ⇒ 12) ∷ (ltb p 1 ⇒ 12) ∷ (ltb 4294967295 p ⇒ 12) ∷ (ltb f l ⇒ 12) ∷ (ltb image f ⇒ 12) ∷ []
+
+abbrev pub roomChecks : (preallocate info validated image : ℕ) → List Check
+roomChecks p v l image = (ltb 255 v ⇒ 4) ∷ (ltb image (padded l p) ⇒ 5) ∷ (ltb image (5 + v) ⇒ 5) ∷ []
+
+abbrev pub openChecks : (preallocate info validated fileLength image staging : ℕ) → List Check
+openChecks p v l f image staging = rangeChecks p l f image staging ++ roomChecks p v l image
+
 unfoldable pub openRefusal : Terms → (validated fileLength image staging : ℕ) → ℕ
-openRefusal o l f image staging =
-    first
-    ((ltb 1048576 image ⇒ 12) ∷ (ltb 65536 staging ⇒ 12) ∷ (ltb (o .preallocate) 1 ⇒ 12) ∷ (ltb 4294967295 (o .preallocate) ⇒ 12)
-    ∷ (ltb f l ⇒ 12) ∷ (ltb image f ⇒ 12)
-    ∷ (ltb 255 (length (o .info)) ⇒ 4)
-    ∷ (ltb image (padded l (o .preallocate)) ⇒ 5) ∷ (ltb image (5 + length (o .info)) ⇒ 5) ∷ [])
+openRefusal o l f image staging = first (openChecks (o .preallocate) (length (o .info)) l f image staging)
 
 -- ---- what an accepted opening does
 
@@ -47,9 +55,9 @@ unheaded o l f image staging =
     store (prepared image p l f) staging (record { length = max f p; position = l; staged = 0; synchronized = l })
 
 -- if L = 0 the header is written and flushed
-unfoldable pub headed : Terms → (validated : ℕ) → Store → Store
-headed o zero s = flushed (writtenAll s (heading (o .info)))
-headed o (suc l) s = s
+unfoldable pub headed : (info : List ℕ) (validated : ℕ) → Store → Store
+headed info zero s = flushed (writtenAll s (heading info))
+headed info (suc l) s = s
 
 -- the version info, and zeros behind it
 abbrev pub kept : (info : List ℕ) → List ℕ
@@ -57,7 +65,7 @@ kept info = lay (replicate 255 0) 0 info
 
 unfoldable pub openedMachine : Terms → (validated fileLength : ℕ) → (image staging : List ℕ) → Machine
 openedMachine o l f image staging =
-    let s = headed o l (unheaded o l f image staging) in
+    let s = headed (o .info) l (unheaded o l f image staging) in
     machine
     (record {
       id = o .id;
@@ -89,3 +97,12 @@ unfoldable pub opened : Terms → (validated fileLength : ℕ) → (image stagin
 opened o l f image staging =
     let no′ = openRefusal o l f (length image) (length staging) in
     after (reply no′ []) (obey no′ (machine blank image staging) (openedMachine o l f image staging))
+
+-- ---- what `open` may answer and leave
+
+abbrev pub terms : (id : ℕ) → LastId → (info : List ℕ) → (preallocate : ℕ) → Terms
+terms id last info p = record { id = id; last = last; info = info; preallocate = p }
+
+abbrev pub OpenAllows : Terms → (validated fileLength : ℕ) → (image staging : List ℕ) → Answered → (image′ staging′ : List ℕ) → Type 0
+OpenAllows o l f image staging r image′ staging′ =
+    after (answeredAs (r .answer)) (machine (r .writer) image′ staging′) ≡ opened o l f image staging

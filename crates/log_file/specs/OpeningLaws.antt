@@ -4,22 +4,22 @@ use native.Mathlib.Nat.{zero-add}
 use native.Mathlib.Omega.{arith}
 use mathlib.Core.Path.{_≡_, refl, ap, sym, _∙_}
 use mathlib.Core.Bool.{true}
-use mathlib.Core.List.{List, [], _∷_, append-nil, flatten}
+use mathlib.Core.List.{List, [], append-nil, flatten}
 use lib.ListN.{length, take, replicate, length-replicate}
 use borrow.Author.Tests.{le-leb, ltb-false}
 use Rattle.lists.specs.Lay.{lay}
 use Rattle.lists.specs.LayLaws.{length-lay, lay-done}
-use lib.Dec.{ltb}
-use Rattle.lists.specs.Answers.{Check, _⇒_, numberOf, refused}
+use Rattle.lists.specs.Answers.{numberOf, refused}
 use Rattle.lists.specs.AnswersLaws.{clear}
 use Rattle.lists.specs.ChoiceLaws.{refusal-keeps, number-reply}
 use Rattle.entry.specs.Format.{header}
+use Rattle.entry.specs.FormatLaws.{length-header}
 use Rattle.buffered.specs.Staging.{logical, writtenAll}
 use Rattle.buffered.specs.StagingLaws.{Reads, reads-itself, flush-reads, writtenAll-reads, sizes-both, flush-wrote, writtenAll-wrote}
 use Rattle.log_file.specs.State.{machine, ruled, valid}
 use Rattle.log_file.specs.StateLaws.{Valid, valid-by}
 use Rattle.log_file.specs.Calls.{Call, after, refusal, heading, called}
-use Rattle.log_file.specs.Opening.{Terms, padded, openRefusal, prepared, unheaded, headed, kept, openedMachine, blank, opened}
+use Rattle.log_file.specs.Opening.{Terms, padded, openChecks, openRefusal, prepared, unheaded, headed, kept, openedMachine, blank, opened}
 
 -- ---- refused
 
@@ -45,10 +45,6 @@ pub heading-header : (info : List ℕ) → flatten (heading info) ≡ header inf
 unfolding flatten header
 heading-header info = simp append-nil
 
-pub length-header : (info : List ℕ) → length (header info) ≡ 5 + length info
-unfolding header
-length-header info = omega arith
-
 -- the version info, out of the array that keeps it
 pub kept-info : (info : List ℕ) → length info ≤ 255 → take (length info) (kept info) ≡ info
 kept-info info h =
@@ -58,14 +54,6 @@ kept-info info h =
 length-prepared : (image : List ℕ) (p l f : ℕ) → length (prepared image p l f) ≡ length image
 unfolding prepared
 length-prepared image p l f = length-lay (lay image f (replicate (p - f) 0)) l (replicate (p - f) 0) ∙ length-lay image f (replicate (p - f) 0)
-
--- the row of `openRefusal`, by name
-abbrev row : Terms → (validated fileLength image staging : ℕ) → List Check
-row o l f image staging =
-    (ltb 1048576 image ⇒ 12) ∷ (ltb 65536 staging ⇒ 12) ∷ (ltb (o .preallocate) 1 ⇒ 12) ∷ (ltb 4294967295 (o .preallocate) ⇒ 12)
-    ∷ (ltb f l ⇒ 12) ∷ (ltb image f ⇒ 12)
-    ∷ (ltb 255 (length (o .info)) ⇒ 4)
-    ∷ (ltb image (padded l (o .preallocate)) ⇒ 5) ∷ (ltb image (5 + length (o .info)) ⇒ 5) ∷ []
 
 -- what an accepted opening's row tells
 pub record Opens (o : Terms) (l f image staging : ℕ) : Type 0 where
@@ -84,7 +72,7 @@ pub opening-clear : (o : Terms) (l f : ℕ) (image staging : List ℕ) → numbe
 unfolding openRefusal
 opening-clear o l f image staging z =
     let e : openRefusal o l f (length image) (length staging) ≡ 0 = sym (number-opened o l f image staging) ∙ z in
-    let k = clear (row o l f (length image) (length staging)) e in
+    let k = clear (openChecks (o .preallocate) (length (o .info)) l f (length image) (length staging)) e in
     omega (arith, ltb-false)
 
 module _ (o : Terms) (f : ℕ) (image staging : List ℕ) where
@@ -105,7 +93,7 @@ module _ (o : Terms) (f : ℕ) (image staging : List ℕ) where
 
   -- a fresh opening reads as the header
   pub headed-reads : Opens o 0 f (length image) (length staging)
-      → Reads (length image) (headed o 0 (unheaded o 0 f image staging)) (header (o .info))
+      → Reads (length image) (headed (o .info) 0 (unheaded o 0 f image staging)) (header (o .info))
   unfolding headed
   headed-reads k =
       let n = length image in
@@ -114,12 +102,12 @@ module _ (o : Terms) (f : ℕ) (image staging : List ℕ) where
       flush-reads n (writtenAll s (heading (o .info))) (header (o .info))
       (rw (← heading-header) (writtenAll-reads n s (heading (o .info)) [] (unheaded-reads 0 k) (rw heading-header (omega arith))))
 
-  opened-reads : (l : ℕ) → Opens o l f (length image) (length staging) → Reads (length image) (headed o l (unheaded o l f image staging)) (logical (headed o l (unheaded o l f image staging)))
+  opened-reads : (l : ℕ) → Opens o l f (length image) (length staging) → Reads (length image) (headed (o .info) l (unheaded o l f image staging)) (logical (headed (o .info) l (unheaded o l f image staging)))
   unfolding headed
   opened-reads zero k = reads-itself _ _ _ (headed-reads k)
   opened-reads (suc l) k = reads-itself _ _ _ (unheaded-reads (suc l) k)
 
-  opened-sizes : (l : ℕ) → length ((headed o l (unheaded o l f image staging)) .staging) ≡ length staging
+  opened-sizes : (l : ℕ) → length ((headed (o .info) l (unheaded o l f image staging)) .staging) ≡ length staging
   unfolding headed unheaded
   opened-sizes zero =
       let s = unheaded o 0 f image staging in

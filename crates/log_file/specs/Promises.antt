@@ -19,7 +19,7 @@ use Rattle.log_file.specs.declared.entries.Finished.{Finished}
 use Rattle.log_file.specs.declared.entries.CommitAnswer.{CommitAnswer}
 use Rattle.log_file.specs.declared.entries.CommitAnswer.the-variants.{Entry, Refused as CommitRefused}
 use Rattle.log_file.specs.declared.entries.Committed.{Committed}
-use Rattle.log_file.specs.State.{Machine, machine}
+use Rattle.log_file.specs.State.{machine}
 use Rattle.log_file.specs.Calls.{Call, beginEntry, beginChunk, write, finish, commit, rollback, recycle, flush, synchronize, landing, after, called}
 
 -- ---- answers, in document 01's numbers and values

@@ -1,5 +1,5 @@
 -- The plain reads of a writer's state: 12 unless the state's own rules hold. No buffers are brought, and nothing changes.
-use Prim.Native.Nat.{ℕ, _+_}
+use Prim.Native.Nat.{ℕ}
 use mathlib.Core.Path.{_≡_}
 use mathlib.Core.Bool.{cond, not}
 use mathlib.Core.List.{List, [], _∷_}
