@@ -1,14 +1,13 @@
 -- A landing's way out, over plain variables: nothing moves.
 use Prim.Native.Nat.{ℕ}
 use native.Mathlib.Omega.{arith}
-use mathlib.Core.Path.{_≡_, refl, sym, ap, _∙_}
+use mathlib.Core.Path.{_≡_, refl, ap, _∙_}
 use mathlib.Core.Bool.{Bool, true, false, cond, not}
-use mathlib.Core.List.{[], _∷_}
-use Rattle.lists.specs.Answers.{Answer, refused, reply, obey}
+use Rattle.lists.specs.Answers.{Answer, refused, obey}
 use Rattle.buffered.specs.declared.seek.SeekFrom.{SeekFrom}
-use Rattle.buffered.specs.Seek.{target, misses, placeOf, land}
+use Rattle.buffered.specs.Seek.{target, misses, land}
 use Rattle.log_file.specs.State.{Machine, position, valid}
-use Rattle.log_file.specs.Calls.{Call, flush, landing, refusal, checks, reports, worked, idAfter, lastAfter, momentAfter, acted, after, called}
+use Rattle.log_file.specs.Calls.{flush, landing, refusal, checks, reports, worked, idAfter, lastAfter, momentAfter, acted, after, called}
 
 lands-here : (m : Machine) (from : SeekFrom) → acted m (landing from) ≡ m
 unfolding acted worked idAfter lastAfter momentAfter

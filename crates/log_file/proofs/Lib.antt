@@ -4,3 +4,4 @@ pub mod Pieces
 pub mod Landings
 pub mod PlainReads
 pub mod Examples
+pub mod Openings

@@ -1,14 +1,13 @@
 -- How a call comes out, over plain variables: refused, or accepted with what it did.
-use Prim.Native.Nat.{ℕ, zero, suc, _+_, _≤_}
-use native.Mathlib.Omega.{arith}
-use mathlib.Core.Path.{_≡_, refl, sym, ap, _∙_}
+use Prim.Native.Nat.{ℕ, zero, suc}
+use mathlib.Core.Path.{_≡_, refl}
 use mathlib.Core.List.{List}
 use Rattle.lists.specs.Answers.{accepted, refused, reply, obey}
 use Rattle.buffered.specs.declared.Buffered.{Buffered}
 use Rattle.buffered.specs.Staging.{store}
 use Rattle.log_file.specs.declared.LogFileWriter.{LogFileWriter}
 use Rattle.log_file.specs.State.{Machine, machine, storeOf}
-use Rattle.log_file.specs.Calls.{Call, refusal, reports, worked, idAfter, lastAfter, momentAfter, rewritten, acted, Called, after, called}
+use Rattle.log_file.specs.Calls.{Call, refusal, reports, worked, idAfter, lastAfter, momentAfter, rewritten, acted, after, called}
 
 refuses : (n : ℕ) (m m′ : Machine) (values : List ℕ) → (n ≡ 0 → ⊥) → after (refused n) m ≡ after (reply n values) (obey n m m′)
 refuses zero m m′ values h = absurd (h refl)

@@ -51,7 +51,11 @@ fn begin_entry_refusal(w: LogFileWriter, image: usize, staging: usize, id: u64) 
     ensures { λ r. ⌜ r ≡ refusalWith w image staging (beginEntry id) ⌝ }
 {
     let m = w.moment;
-    let room = lists::refuse_if(lists::exceeds(w.file.position, w.file.staged, 10, w.size), 5, 0);
+    let room = lists::refuse_if(
+        lists::exceeds(w.file.position, w.file.staged, 10, w.size),
+        5,
+        0,
+    );
     let low = lists::refuse_if(id < w.id, 7, room);
     let now = lists::refuse_if(!crate::is_idle(m), 6, low);
     lists::refuse_if(!crate::is_valid(w, image, staging), 12, now)
@@ -93,7 +97,11 @@ fn begin_chunk_refusal(w: LogFileWriter, image: usize, staging: usize, n: u32) -
     ensures { λ r. ⌜ r ≡ refusalWith w image staging (beginChunk n) ⌝ }
 {
     let m = w.moment;
-    let room = lists::refuse_if(lists::exceeds(w.file.position, w.file.staged, n as usize + 10, w.size), 5, 0);
+    let room = lists::refuse_if(
+        lists::exceeds(w.file.position, w.file.staged, n as usize + 10, w.size),
+        5,
+        0,
+    );
     let now = lists::refuse_if(!crate::in_entry(m), 6, room);
     lists::refuse_if(!crate::is_valid(w, image, staging), 12, now)
 }
@@ -185,7 +193,13 @@ fn got_more(m: Moment, taken: &[u8]) -> Moment
     }
 }
 
-fn piece_written(w: LogFileWriter, image: &mut [u8], staging: &mut [u8], offered: &[u8], k: usize) -> LogFileWriter
+fn piece_written(
+    w: LogFileWriter,
+    image: &mut [u8],
+    staging: &mut [u8],
+    offered: &[u8],
+    k: usize,
+) -> LogFileWriter
     requires { ⌜ Room (store (now image) (now staging) (w .file)) k × (k ≡ min (length (now offered)) (owedOf (w .moment))) ⌝ }
     ensures { λ r. ⌜ machine r (now (image .exit)) (now (staging .exit)) ≡ acted (machine w (now (image .entry)) (now (staging .entry))) (writing (now (offered .entry))) ⌝ }
 {

@@ -7,14 +7,14 @@ ghost use Rattle.log_file.specs.State.{machine};
 ghost use Rattle.log_file.specs.Calls.{heading, recycle as recycling, flush as flushing, landing, refusalWith, acted};
 ghost use Rattle.log_file.specs.Promises.{RecycleAllows, FlushAllows, SynchronizeAllows, SeekAllows};
 ghost use Rattle.log_file.specs.Reads.{PositionAllows, BufferPositionAllows, IsSynchronizedAllows, LastEntryIdAllows};
-use buffered::Buffered;
-use buffered::seek::Landing;
-use buffered::seek::SeekFrom;
 use crate::Answer;
 use crate::Answered;
 use crate::LastId;
 use crate::LogFileWriter;
 use crate::Moment;
+use buffered::Buffered;
+use buffered::seek::Landing;
+use buffered::seek::SeekFrom;
 
 // A number of the state.
 pub enum Number {
@@ -51,7 +51,12 @@ fn idle_refusal(w: LogFileWriter, image: usize, staging: usize) -> u8
 
 // ---- recycle
 
-fn segment_recycled(w: LogFileWriter, image: &mut [u8], staging: &mut [u8], id: u64) -> LogFileWriter
+fn segment_recycled(
+    w: LogFileWriter,
+    image: &mut [u8],
+    staging: &mut [u8],
+    id: u64,
+) -> LogFileWriter
     requires { ⌜ (w .v ≤ 255) × (5 + w .v ≤ length (now image)) ⌝ }
     ensures { λ r. ⌜ machine r (now (image .exit)) (now (staging .exit)) ≡ acted (machine w (now (image .entry)) (now (staging .entry))) (recycling id) ⌝ }
 {

@@ -11,6 +11,7 @@ use buffered::Buffered;
 
 pub mod entries;
 pub mod file;
+pub mod opening;
 
 // The id of the last entry that was committed.
 pub enum LastId {

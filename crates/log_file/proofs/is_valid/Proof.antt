@@ -2,15 +2,10 @@
 use borrow.Author.Needs.{needs}
 use Rattle.log_file.proofs.is_valid.Statement.{statement}
 use Rattle.log_file.proofs.is_valid.Tie as tie
-use Rattle.log_file.proofs.is_valid.Reads as reads
-use Rattle.log_file.proofs.is_valid.Lts as lts
-use Rattle.log_file.proofs.rules_hold.Reads as rules-hold-reads
 
--- src/lib.rt:268:5
 rules-hold-requires : tie.Need-rules-hold-requires
 rules-hold-requires c κs = search needs
 
--- src/lib.rt:265:1
 returns : tie.Need-returns
 returns c = rw (c .before .before .rules-hold .ensures)
 

@@ -2,30 +2,22 @@
 use borrow.Author.Needs.{needs}
 use Rattle.log_file.proofs.numbers_of.Statement.{statement}
 use Rattle.log_file.proofs.numbers_of.Tie as tie
-use Rattle.log_file.proofs.numbers_of.Reads as reads
-use Rattle.log_file.proofs.numbers_of.Lts as lts
 
--- src/lib.rt:122:25
 enum-told : tie.Need-enum-told
 enum-told c = search needs
 
--- src/lib.rt:129:27
 enum-known-m : tie.Need-enum-known-m
 enum-known-m c = search needs
 
--- src/lib.rt:137:13
 enum-known-m-2 : tie.Need-enum-known-m-2
 enum-known-m-2 c = search needs
 
--- src/lib.rt:118:1
 returns : tie.Need-returns
 returns c = rw (c .enum-told .given .1)
 
--- src/lib.rt:118:1
 returns-2 : tie.Need-returns-2
 returns-2 c = rw (c .before .m .given .1)
 
--- src/lib.rt:118:1
 returns-3 : tie.Need-returns-3
 returns-3 c = rw (c .before .m2 .given .1)
 

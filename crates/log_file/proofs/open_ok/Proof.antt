@@ -2,40 +2,28 @@
 use borrow.Author.Needs.{needs}
 use Rattle.log_file.proofs.open_ok.Statement.{statement}
 use Rattle.log_file.proofs.open_ok.Tie as tie
-use Rattle.log_file.proofs.open_ok.Reads as reads
-use Rattle.log_file.proofs.open_ok.Lts as lts
-use Rattle.lists.proofs.within.Reads as within-reads
-use Rattle.log_file.proofs.chunk_ok.Reads as chunk-ok-reads
 
--- src/lib.rt:236:25
 enum-told : tie.Need-enum-told
 enum-told c = search needs
 
--- src/lib.rt:237:34
 enum-known-m : tie.Need-enum-known-m
 enum-known-m c = search needs
 
--- src/lib.rt:237:45
 within-requires : tie.Need-within-requires
 within-requires c κs = search needs
 
--- src/lib.rt:240:13
 enum-known-m-2 : tie.Need-enum-known-m-2
 enum-known-m-2 c = search needs
 
--- src/lib.rt:244:14
 chunk-ok-requires : tie.Need-chunk-ok-requires
 chunk-ok-requires c κs = search needs
 
--- src/lib.rt:232:1
 returns : tie.Need-returns
 returns c = search needs
 
--- src/lib.rt:232:1
 returns-2 : tie.Need-returns-2
 returns-2 c = rw (c .before .before .m .given .1) (c .within .ensures)
 
--- src/lib.rt:232:1
 returns-3 : tie.Need-returns-3
 returns-3 c = rw (c .before .before .m2 .given .1) (c .chunk-ok .ensures)
 

@@ -1,36 +1,27 @@
 -- Three writes, and room for each.
 use native.Mathlib.Omega.{arith}
-use mathlib.Core.Path.{_≡_, refl, sym, ap, _∙_}
-use Rattle.buffered.specs.Staging.{Store, store, written, writtenAll, backTo, numbersBack}
+use mathlib.Core.Path.{ap, _∙_}
+use Rattle.buffered.specs.Staging.{Store, written, writtenAll}
 use Rattle.buffered.specs.WrittenLaws.{written-fits}
-use lib.ListN.{length, take, length-take}
-use mathlib.Core.List.{List, [], _∷_}
+use lib.ListN.{length}
+use mathlib.Core.List.{[], _∷_}
 use Prim.Native.Nat.{_+_}
 use borrow.Author.Needs.{needs}
 use Rattle.log_file.proofs.put_header.Statement.{statement}
 use Rattle.log_file.proofs.put_header.Tie as tie
-use Rattle.log_file.proofs.put_header.Reads as reads
-use Rattle.log_file.proofs.put_header.Lts as lts
-use Rattle.buffered.proofs.Buffered.write.Reads as write-reads
-use Rattle.buffered.proofs.Buffered.write2.Reads as write2-reads
 
--- src/lib.rt:256:18
 cast-t9 : tie.Need-cast-t9
 cast-t9 c = search needs
 
--- src/lib.rt:257:44
 slice-aggregate-write2 : tie.Need-slice-aggregate-write2
 slice-aggregate-write2 c = search needs
 
--- src/lib.rt:257:52
 slice-aggregate-write2-2 : tie.Need-slice-aggregate-write2-2
 slice-aggregate-write2-2 c = search needs
 
--- src/lib.rt:257:9
 write2-requires : tie.Need-write2-requires
 write2-requires c κs = search needs
 
--- src/lib.rt:258:5
 write-requires : tie.Need-write-requires
 write-requires c κs =
     let a = c .before .before .before .before .before .before .before .before .before .before .before .before .before .before .args in
@@ -38,15 +29,12 @@ write-requires c κs =
     rw (c .before .before .before .before .before .before .write2 .ensures)
     (written-fits _ (n ∷ []) n (written-fits _ (0x6F ∷ 0x6B ∷ 0x77 ∷ 0 ∷ []) (1 + n) (record { image = omega arith; staging = c .before .before .before .before .before .before .before .before .before .before .before .before .before .before .pre .0 .staging })))
 
--- src/lib.rt:251:1
 same-length : tie.Need-same-length
 same-length c = search needs
 
--- src/lib.rt:251:1
 same-length-2 : tie.Need-same-length-2
 same-length-2 c = search needs
 
--- src/lib.rt:251:1
 returns : tie.Need-returns
 unfolding writtenAll
 returns c =

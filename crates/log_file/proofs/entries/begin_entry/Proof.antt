@@ -1,45 +1,34 @@
 -- A refusal, or the deed.
-use native.Mathlib.Omega.{arith}
-use mathlib.Core.Path.{_≡_, refl, sym, ap, _∙_}
-use Rattle.log_file.proofs.Outcomes.{is-refused, is-accepted, is-acted}
+use mathlib.Core.Path.{refl}
+use Rattle.log_file.proofs.Outcomes.{is-refused, is-accepted}
 use Rattle.log_file.proofs.Rooms.{begin-entry-room}
-use Rattle.log_file.specs.State.{machine, validWith, valid, storeOf}
-use Rattle.log_file.specs.Calls.{beginEntry, refusal, reports, checks, writes, worked, idAfter, lastAfter, momentAfter}
+use Rattle.log_file.specs.State.{machine, valid}
+use Rattle.log_file.specs.Calls.{beginEntry, refusal, reports}
 use borrow.Author.Needs.{needs}
 use Rattle.log_file.proofs.entries.begin_entry.Statement.{statement}
 use Rattle.log_file.proofs.entries.begin_entry.Tie as tie
-use Rattle.log_file.proofs.entries.begin_entry.Reads as reads
-use Rattle.log_file.proofs.entries.begin_entry.Lts as lts
-use Rattle.log_file.proofs.entries.begin_entry_refusal.Reads as begin-entry-refusal-reads
-use Rattle.log_file.proofs.entries.entry_begun.Reads as entry-begun-reads
 
--- src/entries.rt:76:9
 begin-entry-refusal-requires : tie.Need-begin-entry-refusal-requires
 begin-entry-refusal-requires c κs = search needs
 
--- src/entries.rt:78:9
 returns : tie.Need-returns
 unfolding refusal valid
 returns c =
     let a = c .before .before .before .before .args in
     is-refused (machine (a .w) (a .image .now) (a .staging .now)) (beginEntry (a .id)) _ (c .before .begin-entry-refusal .ensures) (c .if1 .taken)
 
--- src/entries.rt:84:17
 entry-begun-requires : tie.Need-entry-begun-requires
 unfolding refusal valid
 entry-begun-requires c κs =
     let a = c .before .before .before .before .before .before .args in
     begin-entry-room (machine (a .w) (a .image .now) (a .staging .now)) (a .id) _ (c .before .before .before .begin-entry-refusal .ensures) (c .before .before .if1 .left)
 
--- src/entries.rt:73:1
 same-length : tie.Need-same-length
 same-length c = search needs
 
--- src/entries.rt:73:1
 same-length-2 : tie.Need-same-length-2
 same-length-2 c = search needs
 
--- src/entries.rt:73:1
 returns-2 : tie.Need-returns-2
 unfolding refusal valid reports
 returns-2 c =

@@ -3,30 +3,22 @@ use Rattle.entry.specs.FormatLaws.{chunkSum-none}
 use borrow.Author.Needs.{needs}
 use Rattle.log_file.proofs.entries.chunk_in.Statement.{statement}
 use Rattle.log_file.proofs.entries.chunk_in.Tie as tie
-use Rattle.log_file.proofs.entries.chunk_in.Reads as reads
-use Rattle.log_file.proofs.entries.chunk_in.Lts as lts
 
--- src/entries.rt:106:25
 enum-told : tie.Need-enum-told
 enum-told c = search needs
 
--- src/entries.rt:107:27
 enum-known-m : tie.Need-enum-known-m
 enum-known-m c = search needs
 
--- src/entries.rt:120:14
 enum-told-2 : tie.Need-enum-told-2
 enum-told-2 c = search needs
 
--- src/entries.rt:102:1
 returns : tie.Need-returns
 returns c = search needs
 
--- src/entries.rt:102:1
 returns-2 : tie.Need-returns-2
 returns-2 c = rw (c .before .m .given .1, chunkSum-none)
 
--- src/entries.rt:102:1
 returns-3 : tie.Need-returns-3
 returns-3 c = search needs
 

@@ -1,40 +1,27 @@
 -- One write, the last id, and the moment that follows.
-use native.Mathlib.Omega.{arith}
-use mathlib.Core.Path.{_≡_, refl, sym, ap, _∙_}
-use Rattle.log_file.proofs.Outcomes.{is-refused, is-accepted, is-acted}
-use Rattle.log_file.specs.State.{machine, validWith, valid, storeOf}
-use Rattle.log_file.specs.Calls.{beginEntry, beginChunk, write, finish, commit, rollback, refusal, reports, checks, writes, worked, idAfter, lastAfter, momentAfter, entryId, entryStart, lengthOf, owedOf, sumOf, got, openedChunk, closedChunk}
-use Rattle.buffered.specs.Staging.{Store, store, written, writtenAll, backTo}
-use mathlib.Core.List.{List, [], _∷_}
+use Rattle.log_file.proofs.Outcomes.{is-acted}
+use Rattle.log_file.specs.State.{machine}
+use Rattle.log_file.specs.Calls.{write, commit, writes, worked, idAfter, lastAfter, momentAfter}
+use Rattle.buffered.specs.Staging.{writtenAll}
 use borrow.Author.Needs.{needs}
 use Rattle.log_file.proofs.entries.entry_committed.Statement.{statement}
 use Rattle.log_file.proofs.entries.entry_committed.Tie as tie
-use Rattle.log_file.proofs.entries.entry_committed.Reads as reads
-use Rattle.log_file.proofs.entries.entry_committed.Lts as lts
-use Rattle.buffered.proofs.Buffered.write.Reads as write-reads
-use Rattle.log_file.proofs.rewrite.Reads as rewrite-reads
 
--- src/entries.rt:306:43
 slice-aggregate-write : tie.Need-slice-aggregate-write
 slice-aggregate-write c = search needs
 
--- src/entries.rt:306:9
 write-requires : tie.Need-write-requires
 write-requires c κs = search needs
 
--- src/entries.rt:307:5
 rewrite-requires : tie.Need-rewrite-requires
 rewrite-requires c κs = search needs
 
--- src/entries.rt:300:1
 same-length : tie.Need-same-length
 same-length c = search needs
 
--- src/entries.rt:300:1
 same-length-2 : tie.Need-same-length-2
 same-length-2 c = search needs
 
--- src/entries.rt:300:1
 returns : tie.Need-returns
 unfolding worked writes writtenAll idAfter lastAfter momentAfter
 returns c =

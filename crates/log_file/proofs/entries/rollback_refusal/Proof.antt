@@ -1,31 +1,21 @@
 -- The row of checks, from its end.
-use Rattle.log_file.specs.Calls.{beginEntry, beginChunk, write, finish, commit, rollback, refusal, reports, checks, writes, worked, idAfter, lastAfter, momentAfter, entryId, entryStart, lengthOf, owedOf, sumOf, got, openedChunk, closedChunk}
+use Rattle.log_file.specs.Calls.{checks}
 use borrow.Author.Needs.{needs}
 use Rattle.log_file.proofs.entries.rollback_refusal.Statement.{statement}
 use Rattle.log_file.proofs.entries.rollback_refusal.Tie as tie
-use Rattle.log_file.proofs.entries.rollback_refusal.Reads as reads
-use Rattle.log_file.proofs.entries.rollback_refusal.Lts as lts
-use Rattle.lists.proofs.refuse_if.Reads as refuse-if-reads
-use Rattle.log_file.proofs.is_idle.Reads as is-idle-reads
-use Rattle.log_file.proofs.is_valid.Reads as is-valid-reads
 
--- src/entries.rt:337:32
 is-idle-requires : tie.Need-is-idle-requires
 is-idle-requires c κs = search needs
 
--- src/entries.rt:337:9
 refuse-if-requires : tie.Need-refuse-if-requires
 refuse-if-requires c κs = search needs
 
--- src/entries.rt:338:23
 is-valid-requires : tie.Need-is-valid-requires
 is-valid-requires c κs = search needs
 
--- src/entries.rt:338:5
 refuse-if-requires-2 : tie.Need-refuse-if-requires-2
 refuse-if-requires-2 c κs = search needs
 
--- src/entries.rt:333:1
 returns : tie.Need-returns
 unfolding checks
 returns c = cc

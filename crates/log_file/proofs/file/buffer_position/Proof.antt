@@ -1,22 +1,16 @@
 -- By whether the rules hold.
-use mathlib.Core.Path.{_≡_, refl, sym, ap, _∙_}
-use Rattle.log_file.proofs.PlainReads.{reads, refuses, small}
+use mathlib.Core.Path.{sym, _∙_}
+use Rattle.log_file.proofs.PlainReads.{reads, refuses}
 use borrow.Author.Needs.{needs}
 use Rattle.log_file.proofs.file.buffer_position.Statement.{statement}
 use Rattle.log_file.proofs.file.buffer_position.Tie as tie
-use Rattle.log_file.proofs.file.buffer_position.Reads as reads
-use Rattle.log_file.proofs.file.buffer_position.Lts as lts
-use Rattle.log_file.proofs.rules_hold.Reads as rules-hold-reads
 
--- src/file.rt:157:8
 rules-hold-requires : tie.Need-rules-hold-requires
 rules-hold-requires c κs = search needs
 
--- src/file.rt:158:9
 returns : tie.Need-returns
 returns c = reads _ _ (sym (c .before .rules-hold .ensures) ∙ c .if1 .taken)
 
--- src/file.rt:154:1
 returns-2 : tie.Need-returns-2
 returns-2 c = refuses _ _ (sym (c .before .rules-hold .ensures) ∙ c .if1 .left)
 

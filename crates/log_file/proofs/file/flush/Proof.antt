@@ -1,51 +1,37 @@
 -- A refusal, or the deed.
-use native.Mathlib.Omega.{arith}
-use mathlib.Core.Path.{_≡_, refl, sym, ap, _∙_}
+use mathlib.Core.Path.{refl}
 use Rattle.log_file.proofs.Outcomes.{is-refused, is-accepted, is-acted}
-use Rattle.log_file.proofs.Rooms.{any-room, header-room}
-use Rattle.log_file.specs.State.{machine, validWith, valid, storeOf}
-use Rattle.log_file.specs.Calls.{recycle, flush, synchronize, landing, refusal, reports, checks, writes, worked, idAfter, lastAfter, momentAfter}
-use Rattle.buffered.specs.Staging.{Store, store, written, writtenAll, backTo, numbersBack}
+use Rattle.log_file.proofs.Rooms.{any-room}
+use Rattle.log_file.specs.State.{machine, valid}
+use Rattle.log_file.specs.Calls.{flush, refusal, reports, checks, writes, worked, idAfter, lastAfter, momentAfter}
 use borrow.Author.Needs.{needs}
 use Rattle.log_file.proofs.file.flush.Statement.{statement}
 use Rattle.log_file.proofs.file.flush.Tie as tie
-use Rattle.log_file.proofs.file.flush.Reads as reads
-use Rattle.log_file.proofs.file.flush.Lts as lts
-use Rattle.buffered.proofs.Buffered.flush.Reads as flush-reads
-use Rattle.log_file.proofs.file.any_refusal.Reads as any-refusal-reads
-use Rattle.log_file.proofs.rewrite.Reads as rewrite-reads
 
--- src/file.rt:89:9
 any-refusal-requires : tie.Need-any-refusal-requires
 any-refusal-requires c κs = search needs
 
--- src/file.rt:91:9
 returns : tie.Need-returns
 unfolding refusal valid checks
 returns c =
     let a = c .before .before .before .before .args in
     is-refused (machine (a .w) (a .image .now) (a .staging .now)) flush _ (c .before .any-refusal .ensures) (c .if1 .taken)
 
--- src/file.rt:97:9
 flush-requires : tie.Need-flush-requires
 unfolding refusal valid checks
 flush-requires c κs =
     let a = c .before .before .before .before .before .before .before .args in
     any-room (machine (a .w) (a .image .now) (a .staging .now)) flush _ (c .before .before .before .before .any-refusal .ensures) (c .before .before .before .if1 .left) .0
 
--- src/file.rt:101:17
 rewrite-requires : tie.Need-rewrite-requires
 rewrite-requires c κs = search needs
 
--- src/file.rt:86:1
 same-length : tie.Need-same-length
 same-length c = search needs
 
--- src/file.rt:86:1
 same-length-2 : tie.Need-same-length-2
 same-length-2 c = search needs
 
--- src/file.rt:86:1
 returns-2 : tie.Need-returns-2
 unfolding refusal valid reports checks worked writes idAfter lastAfter momentAfter
 returns-2 c =

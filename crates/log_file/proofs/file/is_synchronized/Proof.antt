@@ -1,32 +1,24 @@
 -- By whether the rules hold, and the two numbers are the same.
 use native.Mathlib.Omega.{arith}
-use mathlib.Core.Path.{_≡_, refl, sym, ap, _∙_}
+use mathlib.Core.Path.{sym, _∙_}
 use Rattle.log_file.proofs.PlainReads.{reads, refuses, small}
 use borrow.Author.Tests.{eq-eqb, ne-eqb}
 use borrow.Author.Needs.{needs}
 use Rattle.log_file.proofs.file.is_synchronized.Statement.{statement}
 use Rattle.log_file.proofs.file.is_synchronized.Tie as tie
-use Rattle.log_file.proofs.file.is_synchronized.Reads as reads
-use Rattle.log_file.proofs.file.is_synchronized.Lts as lts
-use Rattle.log_file.proofs.rules_hold.Reads as rules-hold-reads
 
--- src/file.rt:167:8
 rules-hold-requires : tie.Need-rules-hold-requires
 rules-hold-requires c κs = search needs
 
--- src/file.rt:168:12
 add-if2 : tie.Need-add-if2
 add-if2 c = let h = small _ (sym (c .before .before .rules-hold .ensures) ∙ c .before .if1 .taken) in omega arith
 
--- src/file.rt:169:13
 returns : tie.Need-returns
 returns c = rw (eq-eqb _ _ (c .if2 .taken)) (reads _ _ (sym (c .before .before .before .before .rules-hold .ensures) ∙ c .before .before .before .if1 .taken))
 
--- src/file.rt:171:9
 returns-2 : tie.Need-returns-2
 returns-2 c = rw (ne-eqb _ _ (c .if2 .left)) (reads _ _ (sym (c .before .before .before .before .rules-hold .ensures) ∙ c .before .before .before .if1 .taken))
 
--- src/file.rt:164:1
 returns-3 : tie.Need-returns-3
 returns-3 c = refuses _ _ (sym (c .before .rules-hold .ensures) ∙ c .if1 .left)
 
