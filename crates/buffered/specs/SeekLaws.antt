@@ -7,7 +7,7 @@ use Rattle.buffered.specs.declared.seek.Landing.{Landing}
 use Rattle.buffered.specs.declared.seek.Landing.the-variants.{At, Refused}
 use Rattle.buffered.specs.Seek.{landedAs, SeekAllows}
 
-landed-one : (a b : Landing) → landedAs a ≡ landedAs b → a ≡ b
+pub landed-one : (a b : Landing) → landedAs a ≡ landedAs b → a ≡ b
 landed-one (At p) (At q) e = cc
 landed-one (At p) (Refused n) e = let z : _≡_ {A = ℕ} 0 1 = cc in absurd (omega arith)
 landed-one (Refused m) (At q) e = let z : _≡_ {A = ℕ} 0 1 = cc in absurd (omega arith)

@@ -5,7 +5,9 @@ pub mod CallsLaws
 pub mod Promises
 pub mod Opening
 pub mod OpeningLaws
+pub mod PromisesLaws
 pub mod Reads
+pub mod ReadsLaws
 pub mod History
 pub mod HistoryLaws
 pub mod HistoryRanges
