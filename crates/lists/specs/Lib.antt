@@ -4,3 +4,5 @@ pub mod Answers
 pub mod AnswersLaws
 pub mod ChoiceLaws
 pub mod TakeLaws
+pub mod Stream
+pub mod Walk
