@@ -21,3 +21,4 @@ pub mod CutsLaws
 pub mod Driver
 pub mod Turns
 pub mod DriverLaws
+pub mod ReadBack
