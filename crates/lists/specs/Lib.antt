@@ -6,3 +6,4 @@ pub mod ChoiceLaws
 pub mod TakeLaws
 pub mod Stream
 pub mod Walk
+pub mod All

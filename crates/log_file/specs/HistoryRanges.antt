@@ -9,33 +9,26 @@ use borrow.Author.Tests.{ltb-false}
 use Rattle.lists.specs.Answers.{first}
 use Rattle.lists.specs.AnswersLaws.{clear}
 use Rattle.lists.specs.ChoiceLaws.{obeyed}
+use Rattle.lists.specs.All.{All}
 use Rattle.entry.specs.Format.{Entry}
+use Rattle.entry.specs.Writable.{Writable}
 use Rattle.log_file.specs.declared.LastId.{LastId}
 use Rattle.log_file.specs.Calls.{Call, beginEntry, beginChunk, write, finish, commit, rollback, flush, recycle, synchronize, landing}
 use Rattle.log_file.specs.History.{Open, nothing, anEntry, aChunk, History, fresh, withOpen, grow, causes, next}
 
-abbrev pub Each : {A : Type 0} → (A → Type 0) → List A → Type 0
-Each P [] = Unit {0}
-Each P (x ∷ xs) = P x × Each P xs
+all-snoc : {A : Type 0} (P : A → Type 0) (xs : List A) (x : A) → All P xs → P x → All P (xs ++ (x ∷ []))
+all-snoc P [] x h p = (p, tt)
+all-snoc P (y ∷ xs) x h p = (h .0, all-snoc P xs x (h .1) p)
 
-each-snoc : {A : Type 0} (P : A → Type 0) (xs : List A) (x : A) → Each P xs → P x → Each P (xs ++ (x ∷ []))
-each-snoc P [] x h p = (p, tt)
-each-snoc P (y ∷ xs) x h p = (h .0, each-snoc P xs x (h .1) p)
-
--- ---- an entry in a segment of the id `from`
-
-pub record Ranged (from : ℕ) (e : Entry) : Type 0 where
-  pub reached : from ≤ e .id
-  pub wide : e .id < 2 ^ 64
-  pub chunks : Each (λ (d : List ℕ). length d < 2 ^ 32) (e .chunks)
+-- ---- what is open in a segment of the id `from`
 
 abbrev pub OpenRanged : (from : ℕ) → Open → Type 0
 OpenRanged from nothing = Unit {0}
-OpenRanged from (anEntry id chunks) = Ranged from (record { id = id; chunks = chunks })
-OpenRanged from (aChunk id chunks n got) = Ranged from (record { id = id; chunks = chunks }) × (n < 2 ^ 32) × (length got ≤ n)
+OpenRanged from (anEntry id chunks) = Writable from (record { id = id; chunks = chunks })
+OpenRanged from (aChunk id chunks n got) = Writable from (record { id = id; chunks = chunks }) × (n < 2 ^ 32) × (length got ≤ n)
 
 pub record AllRanged (h : History) : Type 0 where
-  pub committed : Each (Ranged (h .id)) (h .committed)
+  pub committed : All (Writable (h .id)) (h .committed)
   pub pending : OpenRanged (h .id) (h .pending)
 
 -- ---- a call with arguments of their widths
@@ -52,7 +45,7 @@ Argued flush = Unit {0}
 Argued (synchronize t) = Unit {0}
 Argued (landing from) = Unit {0}
 
-module _ (n : ℕ) (h : History) (es : Each (Ranged (h .id)) (h .committed)) where
+module _ (n : ℕ) (h : History) (es : All (Writable (h .id)) (h .committed)) where
   Grows : Call → Open → Type 0
   Grows c o = Argued c → OpenRanged (h .id) o → first (causes n (withOpen h o) c) ≡ 0 → AllRanged (grow (withOpen h o) c)
 
@@ -60,7 +53,7 @@ module _ (n : ℕ) (h : History) (es : Each (Ranged (h .id)) (h .committed)) whe
   unfolding Grows causes
   begin-ranged id o a r e =
       let k = clear (causes n (withOpen h o) (beginEntry id)) e in
-      record { committed = es; pending = record { reached = omega (arith, ltb-false); wide = a; chunks = tt } }
+      record { committed = es; pending = record { not-below = omega (arith, ltb-false); id-fits = a; chunks-fit = tt } }
 
   chunk-ranged : (k : ℕ) (o : Open) → Grows (beginChunk k) o
   unfolding Grows causes
@@ -83,9 +76,9 @@ module _ (n : ℕ) (h : History) (es : Each (Ranged (h .id)) (h .committed)) whe
       record {
         committed = es;
         pending = record {
-          reached = r .0 .reached;
-          wide = r .0 .wide;
-          chunks = each-snoc (λ (d : List ℕ). length d < 2 ^ 32) cs d (r .0 .chunks) (omega arith);
+          not-below = r .0 .not-below;
+          id-fits = r .0 .id-fits;
+          chunks-fit = all-snoc (λ (d : List ℕ). length d < 2 ^ 32) cs d (r .0 .chunks-fit) (omega arith);
         };
       }
 
@@ -93,7 +86,7 @@ module _ (n : ℕ) (h : History) (es : Each (Ranged (h .id)) (h .committed)) whe
   unfolding Grows causes
   commit-ranged nothing a r e = absurd (omega arith)
   commit-ranged (anEntry i cs) a r e =
-      record { committed = each-snoc (Ranged (h .id)) (h .committed) (record { id = i; chunks = cs }) es r; pending = tt }
+      record { committed = all-snoc (Writable (h .id)) (h .committed) (record { id = i; chunks = cs }) es r; pending = tt }
   commit-ranged (aChunk i cs m d) a r e = absurd (omega arith)
 
   grow-ranged : (c : Call) → Grows c (h .pending)

@@ -16,7 +16,9 @@ use Rattle.crc32c.specs.Crc.{bitStep, steps, byteStep, update, crcAppend}
 use Rattle.entry.specs.Format.{header, covered, chunkSum, chunk, Entry, entry, segment}
 use Rattle.segment_reader.specs.Reading.{standing, skipTurn, skip, complete, also, wholeTurn, whole, chunksAt, left, lead, opened}
 use Rattle.segment_reader.specs.WholeReading.{Found, landed, onward, withEntry, readTurn, readFrom, Outcome, read, readOpened, readSegment}
-use Rattle.segment_reader.specs.Yielded.{All, Writable, asFound, yields, yielded, ReadsBack, ReadsFirst, behind}
+use Rattle.lists.specs.All.{All}
+use Rattle.entry.specs.Writable.{Writable}
+use Rattle.segment_reader.specs.Yielded.{asFound, yields, yielded, ReadsBack, ReadsFirst, behind}
 use Rattle.segment_reader.specs.RoundTrip.{round-trip, round-trip-zeros, entries-come-first}
 use Rattle.segment_reader.specs.Soundness.{sound}
 

@@ -170,3 +170,39 @@ cuts-do-not-show r image ps qs h g = go (openOf r (length image)) refl
         let a = read-out r image id mark n ps (r .place) owed f (rw m at h) in
         let b = read-out r image id mark n qs (r .place) owed f (rw m at g) in
         alike r image ps qs (rw m (a .bytes ∙ sym (b .bytes))) (rw m (a .stands ∙ sym (b .stands)))
+
+-- ---- what it gives: all that was to be had; and one read that asks for so much reaches the end
+
+pub read-to-end : (r : SegmentReader) (image : List ℕ) (ps : List Piece) → ReadOut (readTo ps r image) image
+    → gathered ps r image ≡ part image (r .place) (toCome r image (openOf r (length image)))
+unfolding toCome
+read-to-end r image ps h = go (openOf r (length image)) refl
+  where
+    go : (o : Open) → openOf r (length image) ≡ o → gathered ps r image ≡ part image (r .place) (toCome r image o)
+    go (Refused no′) e = refused r image no′ e ps .1
+    go (Chunk id mark n owed) e =
+        let z = open-says r (length image) id mark n owed e in
+        let m : r ≡ chunkAt r image id mark n (r .place) owed = ap (moved r (r .place)) (z .in-chunk) in
+        rw m (read-out r image id mark n ps (r .place) owed (rw m at (z .fits)) (rw m at h) .bytes)
+
+asked-all : (o size p k j : ℕ) → min o (size - p) ≤ k → j ≡ min k (min o (size - p)) → min (o - j) (size - (p + j)) ≡ 0
+asked-all o size p k j h e = let z : j ≡ min o (size - p) = omega arith in omega arith
+
+ends-on : (r : SegmentReader) (image : List ℕ) (id mark n p o k : ℕ) → fit (chunkAt r image id mark n p o) (length image) ≡ true
+    → min o (length image - p) ≤ k → ReadOut (read (chunkAt r image id mark n p o) image k .reader) image
+unfolding toCome
+ends-on r image id mark n p o k f h =
+    let j : ℕ = handed p o k image in
+    let g = fits-on r image id mark n p o j f (handed-most k o (length image - p)) in
+    rw (read-on r image id mark n p o k f, opens r image id mark n (p + j) (o - j) g) (asked-all o (length image) p k j h refl)
+
+pub one-read-ends : (r : SegmentReader) (image : List ℕ) (k : ℕ) → toCome r image (openOf r (length image)) ≤ k → ReadOut (readTo (ask k ∷ []) r image) image
+unfolding after callOf readBy toCome
+one-read-ends r image k h = go (openOf r (length image)) refl h
+  where
+    go : (o : Open) → openOf r (length image) ≡ o → toCome r image o ≤ k → ReadOut (read r image k .reader) image
+    go (Refused no′) e h = rw (read-none r image no′ e k, e)
+    go (Chunk id mark n owed) e h =
+        let z = open-says r (length image) id mark n owed e in
+        let m : r ≡ chunkAt r image id mark n (r .place) owed = ap (moved r (r .place)) (z .in-chunk) in
+        rw m (ends-on r image id mark n (r .place) owed k (rw m at (z .fits)) h)

@@ -10,7 +10,9 @@ use Rattle.entry.specs.Format.{Entry, segment}
 use Rattle.segment_reader.specs.Reading.{Opened, opens, refuses, opened}
 use Rattle.segment_reader.specs.WholeReading
 use Rattle.segment_reader.specs.WholeReading.{Found, Reading, read, readFrom}
-use Rattle.segment_reader.specs.Yielded.{All, Writable, asFound}
+use Rattle.lists.specs.All.{All}
+use Rattle.entry.specs.Writable.{Writable}
+use Rattle.segment_reader.specs.Yielded.{asFound}
 use Rattle.segment_reader.specs.RoundTrip.{round-trip-zeros}
 use Rattle.segment_reader.specs.State.{most}
 use Rattle.segment_reader.specs.Calls.{Reply, told}

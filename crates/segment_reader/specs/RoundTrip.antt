@@ -16,7 +16,9 @@ use Rattle.segment_reader.specs.Reading.{other, standing, none, lead, op
 use Rattle.segment_reader.specs.ReadingLaws.{stands, leads, opened-opens}
 use Rattle.segment_reader.specs.WholeReading.{readFrom, read, readOpened, readSegment}
 use Rattle.segment_reader.specs.WholeReadingLaws.{onward-complete, read-ended}
-use Rattle.segment_reader.specs.Yielded.{All, Writable, behind, ReadsFirst, ReadsBack}
+use Rattle.lists.specs.All.{All}
+use Rattle.entry.specs.Writable.{Writable}
+use Rattle.segment_reader.specs.Yielded.{behind, ReadsFirst, ReadsBack}
 use Rattle.segment_reader.specs.RoundTripLaws.{entries-read, entries-yielded}
 
 -- ---- a segment with anything behind: it opens, and its entries stand behind its header

@@ -16,7 +16,9 @@ use Rattle.segment_reader.specs.NumberLaws.{number-here}
 use Rattle.segment_reader.specs.ReadingLaws.{stands, leads, whole-chunk, whole-close}
 use Rattle.segment_reader.specs.WholeReading.{onward, withEntry, readFrom}
 use Rattle.segment_reader.specs.WholeReadingLaws.{onward-complete, read-entry}
-use Rattle.segment_reader.specs.Yielded.{All, Lengths, Writable, asComplete, asFound, withEntries, behind, yields, yielded}
+use Rattle.lists.specs.All.{All}
+use Rattle.entry.specs.Writable.{Lengths, Writable}
+use Rattle.segment_reader.specs.Yielded.{asComplete, asFound, withEntries, behind, yields, yielded}
 
 -- a chunk of the data d that stands at p, with `rest` after it
 pub record Held (image : List ℕ) (p : ℕ) (d rest : List ℕ) : Type 0 where

@@ -20,7 +20,9 @@ use Rattle.segment_reader.specs.NumberLaws.{le-number, number-lt}
 use Rattle.segment_reader.specs.ReadingLaws.{says, lead-says, close-inside, chunkTurn, whole-forward}
 use Rattle.segment_reader.specs.WholeReading.{Found, Reading, ended, withEntry, readTurn, readFrom, read, readOpened, readSegment}
 use Rattle.segment_reader.specs.WholeReadingLaws.{read-forward}
-use Rattle.segment_reader.specs.Yielded.{All, Lengths, Sound}
+use Rattle.lists.specs.All.{All}
+use Rattle.entry.specs.Writable.{Lengths}
+use Rattle.segment_reader.specs.Yielded.{Sound}
 
 -- bytes that stand there lie inside
 within : (image : List ℕ) (p q : ℕ) (a : List ℕ) → q ≡ p + length a → 0 < length a → drop p image ≡ a ++ drop q image → q ≤ length image

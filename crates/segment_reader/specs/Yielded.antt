@@ -1,4 +1,4 @@
--- What the round trip speaks of: entries that may be written, how a reading finds them, and which entries a reading yields, with the data that the
+-- What the round trip speaks of: how a reading finds them, and which entries a reading yields, with the data that the
 -- image holds. The theorems are in `RoundTrip` and `Soundness`.
 use mathlib.Core.Path.{_≡_}
 use mathlib.Core.List.{List, [], _∷_, _++_, flatMap}
@@ -6,21 +6,10 @@ use Prim.Native.Nat.{ℕ, _+_, _-_, _^_, _≤_, _<_}
 use lib.ListN.{length}
 use Rattle.lists.specs.Stream.{part}
 use Rattle.entry.specs.Format.{Entry, entry, segment}
+use Rattle.entry.specs.Writable.{Writable}
+use Rattle.lists.specs.All.{All}
 use Rattle.segment_reader.specs.Reading.{Whole, complete, aborted, cutOff, wrongSum, chunksAt, left}
 use Rattle.segment_reader.specs.WholeReading.{Found, Reading, after, onward, read, readSegment}
-
-abbrev pub All : {A : Type 0} → (A → Type 0) → List A → Type 0
-All P [] = Unit {0}
-All P (x ∷ xs) = P x × All P xs
-
-abbrev pub Lengths : List (List ℕ) → Type 0
-Lengths chunks = All (λ d. length d < 2 ^ 32) chunks
-
--- an entry that may be written into the file: an id of 64 bits that is not below the file's, and chunks whose lengths have 32 bits
-pub record Writable (file : ℕ) (e : Entry) : Type 0 where
-  pub not-below : file ≤ e .id
-  pub id-fits : e .id < 2 ^ 64
-  pub chunks-fit : Lengths (e .chunks)
 
 -- ---- entries as a reading finds them, where the first stands at p and each behind the one before it: complete
 

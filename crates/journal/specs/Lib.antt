@@ -1,0 +1,16 @@
+pub mod Step
+pub mod StepLaws
+pub mod Stories
+pub mod Demand3
+pub mod StoriesLaws
+pub mod CodeRuns
+pub mod TwoRuns
+pub mod WrongPrograms
+pub mod WrongProgramsFall
+pub mod NumbersOnly
+pub mod WrongProgramsAgree
+pub mod Cases
+pub mod CasesHold
+pub mod Committed
+pub mod BackFromBytes
+pub mod PlainReads
