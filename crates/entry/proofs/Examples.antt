@@ -2,7 +2,7 @@
 use mathlib.Core.Path.{_≡_, refl}
 use mathlib.Core.List.{[], _∷_, flatMap}
 use Rattle.little_endian.specs.LittleEndian.{le}
-use Rattle.crc32c.specs.Crc.{update, crcAppend}
+use Rattle.crc32c.specs.Crc.{bitStep, steps, byteStep, update, crcAppend}
 use Rattle.entry.specs.Format.{header, covered, chunkSum, chunk, entry, segment}
 use Rattle.entry.specs.Position.{positionBytes}
 
@@ -22,3 +22,8 @@ pub p6 : positionBytes (record { «file_id» = 1; offset = 2 })
     ≡ 0x01 ∷ 0x00 ∷ 0x00 ∷ 0x00 ∷ 0x00 ∷ 0x00 ∷ 0x00 ∷ 0x00 ∷ 0x02 ∷ 0x00 ∷ 0x00 ∷ 0x00 ∷ 0x00 ∷ 0x00 ∷ 0x00 ∷ 0x00 ∷ []
 unfolding positionBytes le
 p6 = refl
+
+-- a chunk of three bytes: the data, then its sum
+pub three : chunk (1 ∷ 2 ∷ 3 ∷ []) ≡ 0x02 ∷ 0x03 ∷ 0x00 ∷ 0x00 ∷ 0x00 ∷ 0x01 ∷ 0x02 ∷ 0x03 ∷ 0x1E ∷ 0xF2 ∷ 0x30 ∷ 0xF1 ∷ []
+unfolding chunk chunkSum covered le crcAppend update byteStep steps bitStep
+three = refl

@@ -14,7 +14,7 @@ use Rattle.buffered.specs.declared.seek.SeekFrom.the-variants.{Start, End, Curr
 use Rattle.buffered.specs.Staging.{logical, flushed, direct, staged, emptied, rounds, written, writtenAll, backTo, synchronized}
 use Rattle.log_file.specs.declared.LastId.the-variants.{Nothing}
 use Rattle.log_file.specs.State.{Machine, storeOf, position, ruled, valid}
-use Rattle.log_file.specs.Calls.{Call, beginEntry, beginChunk, write, finish, commit, rollback, flush, synchronize, landing, checks, refusal, reports, writes, worked, momentAfter, lastAfter, idAfter, acted, called}
+use Rattle.log_file.specs.Calls.{Call, beginEntry, beginChunk, write, finish, commit, rollback, flush, recycle, synchronize, landing, checks, refusal, reports, writes, worked, momentAfter, lastAfter, idAfter, acted, called}
 use Rattle.log_file.specs.Opening.{Terms, padded, openRefusal, prepared, unheaded, headed, openedMachine, opened}
 use Rattle.log_file.specs.History
 use Rattle.log_file.specs.History.{History, begun, opening, bytes, causes, tells, told, next, tellable}
@@ -170,3 +170,33 @@ trace-opened : (numberOf ((opened (terms 64) 0 0 (replicate 64 7) (replicate 0 9
     × (numberOf ((opened (terms 64) 0 0 (replicate 64 7) (replicate 8 9)) .answer) ≡ 0)
 unfolding opened openRefusal padded
 trace-opened = (refl, refl)
+
+-- ---- what no other case shows
+
+-- an entry begins with two writes, of 1 and of 8 bytes, and 8 bytes are staged where the staging holds 8: one byte stays behind
+pub write-sizes : run (fresh 64 8) (beginEntry 1 ∷ []) .writer .file ≡ record { length = 64; position = 13; staged = 1; synchronized = 0 }
+unfolding opened openRefusal padded openedMachine headed unheaded prepared lay writtenAll written rounds emptied staged direct flushed called refusal ruled valid checks reports writes worked momentAfter lastAfter idAfter acted le
+write-sizes = refl
+
+-- a sync to the synchronized number does nothing
+pub sync-none : run (fresh 64 64) (beginEntry 1 ∷ flush ∷ synchronize 0 ∷ []) .writer .file ≡ record { length = 64; position = 14; staged = 0; synchronized = 0 }
+unfolding opened openRefusal padded openedMachine headed unheaded prepared lay writtenAll written rounds emptied staged direct flushed called refusal ruled valid checks reports writes worked momentAfter lastAfter idAfter acted synchronized le
+sync-none = refl
+
+-- recycling writes the header and does not flush it
+pub recycle-staged : run (fresh 64 64) (recycle 2 ∷ []) .writer .file ≡ record { length = 64; position = 0; staged = 5; synchronized = 0 }
+unfolding opened openRefusal padded openedMachine headed unheaded prepared lay writtenAll written rounds emptied staged direct flushed called refusal ruled valid checks reports writes worked momentAfter lastAfter idAfter acted backTo
+recycle-staged = refl
+
+-- the padding rounds up: a validated length of 65 at a preallocation of 64 makes a file of 128
+pub rounds-up : (opened (terms 64) 65 65 (replicate 128 7) []) .machine′ .writer .file ≡ record { length = 128; position = 65; staged = 0; synchronized = 65 }
+unfolding opened openRefusal padded openedMachine headed unheaded prepared lay
+rounds-up = refl
+
+-- the order of an opening's refusals: 12, 4, 5
+abbrev long : (preallocate : ℕ) → Terms
+long p = record { id = 1; last = Nothing; info = replicate 256 0; preallocate = p }
+
+pub opening-order : ((opened (long 0) 0 0 (replicate 5 7) []) .answer ≡ refused 12) × ((opened (long 64) 0 0 (replicate 5 7) []) .answer ≡ refused 4)
+unfolding opened openRefusal padded
+opening-order = (refl, refl)

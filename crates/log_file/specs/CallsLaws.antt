@@ -245,3 +245,10 @@ called-kept m c =
     obeyed (λ u. Kept m u) (refusal m c) m (acted m c)
     (record { info = refl; v = refl; size = refl; capacity = refl; buffers = sizes-none (storeOf m) })
     (λ e. record { info = refl; v = refl; size = refl; capacity = refl; buffers = worked-sizes (m .writer) c (storeOf m) })
+
+-- ---- a rollback changes no byte of image or staging
+
+pub rollback-bytes : (m : Machine) → ((called m rollback) .machine′ .image ≡ m .image) × ((called m rollback) .machine′ .staging ≡ m .staging)
+unfolding called acted worked backTo
+rollback-bytes m =
+    obeyed (λ (u : Machine). (u .image ≡ m .image) × (u .staging ≡ m .staging)) (refusal m rollback) m (acted m rollback) (refl, refl) (λ e. (refl, refl))
