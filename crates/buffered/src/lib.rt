@@ -140,7 +140,7 @@ impl Buffered {
         self.mark()
     }
 
-    // The logical position becomes at most n.
+    // The logical position becomes at most n, and so does the synchronized number. No byte changes.
     pub fn back_to(self, n: usize) -> Buffered
         ensures { λ r. ⌜ r ≡ numbersBack self n ⌝ }
     {

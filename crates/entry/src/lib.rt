@@ -41,7 +41,7 @@ impl LogPosition {
     pub fn serialize_to(self, destination: &mut [u8]) -> Serialized
         ensures { λ r. ⌜ SerializeAllows self (now (destination .entry)) r (now (destination .exit)) ⌝ }
     {
-        if destination.len() < 16 {
+        if destination.len() < LogPosition::SERIALIZED_LENGTH {
             return Serialized::Refused(5);
         }
         let file_id = little_endian::u64_bytes(self.file_id);
@@ -55,7 +55,7 @@ impl LogPosition {
     pub fn deserialize_from(read: &[u8]) -> Deserialized
         ensures { λ r. ⌜ DeserializeAllows (now (read .entry)) r ⌝ }
     {
-        if read.len() < 16 {
+        if read.len() < LogPosition::SERIALIZED_LENGTH {
             return Deserialized::Refused(1);
         }
         Deserialized::Position(LogPosition {

@@ -7,18 +7,24 @@ use mathlib.Core.List.{List, [], _∷_, flatMap}
 use lib.ListN.{take, replicate}
 use lib.IntN.{pos}
 use Rattle.lists.specs.Lay.{lay}
+use Rattle.lists.specs.Walk.{walk, around}
 use Rattle.lists.specs.Answers.{Answer, accepted, refused}
-use Rattle.little_endian.specs.LittleEndian.{le}
+use Rattle.little_endian.specs.LittleEndian.{le, fromLe, number}
 use Rattle.crc32c.specs.Crc.{bitStep, steps, byteStep, update, crcAppend}
 use Rattle.entry.specs.Format.{header, covered, chunkSum, chunk, Entry, entry, segment}
 use Rattle.buffered.specs.declared.seek.SeekFrom.the-variants.{End, Current}
 use Rattle.buffered.specs.Staging.{flushed, direct, staged, emptied, rounds, written, writtenAll, backTo, synchronized}
 use Rattle.log_file.specs.declared.LastId.the-variants.{Nothing}
 use Rattle.log_file.specs.declared.Answer.the-variants.{Accepted as Opened}
-use Rattle.log_file.specs.State.{Machine, ruled, valid}
+use Rattle.log_file.specs.State.{Machine, position, ruled, valid}
 use Rattle.log_file.specs.Calls.{after, checks, refusal, reports, writes, worked, momentAfter, lastAfter, idAfter, acted, called}
 use Rattle.log_file.specs.Opening.{Terms, padded, openRefusal, prepared, unheaded, headed, openedMachine, opened}
 use Rattle.log_file.specs.History.{fresh, begun, opening, causes}
+use Rattle.segment_reader.specs.declared.survey.SegmentRead.the-variants.{Read}
+use Rattle.segment_reader.specs.Reading as Reading
+use Rattle.segment_reader.specs.Reading.{standing, skipTurn, skip, lead, also, wholeTurn, whole, left as leaving}
+use Rattle.segment_reader.specs.WholeReading.{after as after′, landed, onward, withEntry, readTurn, readFrom}
+use Rattle.segment_reader.specs.Driver.{verdictOf, chunksOf, words, noted, recorded, oneIf, completes, surveyOf, readOpened, readSegment, ReadSegmentAllows}
 use Rattle.journal.specs.declared.Call.{Call}
 use Rattle.journal.specs.declared.Call.the-variants.{BeginEntry, BeginChunk, Write, Finish, Commit, Flush, Synchronize, Seek}
 use Rattle.journal.specs.declared.Reply.{Reply}
@@ -28,8 +34,9 @@ use Rattle.journal.specs.Stories.{calls, canonFrom, canon, story, answer
 use Rattle.journal.specs.Demand3.{Given, ours}
 use Rattle.journal.specs.CodeRuns.{Opening, OpensFresh, openedAs, Stepping, Run, hears, OneStory}
 use Rattle.journal.specs.TwoRuns.{two-runs-of-the-code}
-use Rattle.journal.specs.Committed.{historyAfter, writerAfter, AtRest, HoldsSegment}
-use Rattle.journal.specs.BackFromBytes.{committed-segment}
+use Rattle.journal.specs.Committed.{historyAfter, writerAfter, AtRest, HoldsSegment, GivesBack}
+use Rattle.journal.specs.BackFromBytes.{back-from-bytes}
+use Rattle.journal.specs.CommittedLaws.{committed-segment}
 
 -- ---- runs of the code, from a list of calls with the replies that they get
 
@@ -161,8 +168,31 @@ left-behind =
     (omega arith)
     rests)
 
--- and that image, computed
-left-bytes : take 27 ((writerAfter (openedAs (opens other)) (steppings (openedAs (opens other)) lines₂)) .image)
-    ≡ 0x6F ∷ 0x6B ∷ 0x77 ∷ 0x00 ∷ 0x00 ∷ 0x01 ∷ 0x01 ∷ 0x00 ∷ 0x00 ∷ 0x00 ∷ 0x00 ∷ 0x00 ∷ 0x00 ∷ 0x00 ∷ 0x02 ∷ 0x03 ∷ 0x00 ∷ 0x00 ∷ 0x00 ∷ 0x01 ∷ 0x02 ∷ 0x03 ∷ 0x1E ∷ 0xF2 ∷ 0x30 ∷ 0xF1 ∷ 0x03 ∷ []
+-- that image, computed; and what `read_segment` answers of it, with a list of four words for its records
+abbrev leftBytes : List ℕ
+leftBytes =
+    0x6F ∷ 0x6B ∷ 0x77 ∷ 0x00 ∷ 0x00 ∷ 0x01 ∷ 0x01 ∷ 0x00 ∷ 0x00 ∷ 0x00 ∷ 0x00 ∷ 0x00 ∷ 0x00 ∷ 0x00 ∷ 0x02 ∷ 0x03 ∷ 0x00 ∷ 0x00 ∷ 0x00 ∷ 0x01 ∷ 0x02 ∷ 0x03 ∷ 0x1E ∷ 0xF2 ∷ 0x30 ∷ 0xF1 ∷ 0x03 ∷ []
+
+abbrev left : Machine
+left = writerAfter (openedAs (opens other)) (steppings (openedAs (opens other)) lines₂)
+
+left-image : (take (position (left .writer)) (left .image) ≡ leftBytes) × (left .writer .id ≡ 1)
 unfolding opened openRefusal padded openedMachine headed unheaded prepared lay writtenAll written rounds emptied staged direct flushed called refusal ruled valid checks reports writes worked momentAfter lastAfter idAfter acted backTo synchronized le chunkSum covered crcAppend update byteStep steps bitStep
-left-bytes = refl
+left-image = (refl, refl)
+
+-- complete, id 1, chunks from 14 on, one chunk
+read-so : ReadSegmentAllows 1 leftBytes (replicate 4 9) (Read 1 1 27) (1 ∷ 1 ∷ 14 ∷ 1 ∷ [])
+unfolding readSegment readOpened surveyOf Reading.opened readFrom around walk readTurn onward landed after′ withEntry completes oneIf recorded noted words verdictOf chunksOf lay lead standing skip skipTurn whole wholeTurn also leaving le number fromLe covered chunkSum crcAppend update byteStep steps bitStep
+read-so = refl
+
+given-back : GivesBack (take (position (left .writer)) (left .image)) [] entries (position (left .writer)) (replicate 4 9) (Read 1 1 27) (1 ∷ 1 ∷ 14 ∷ 1 ∷ [])
+given-back =
+    rw committed-entries at
+    (back-from-bytes someTerms other (opens other) (opened-so .1) refl (steppings (openedAs (opens other)) lines₂)
+    (fitting (openedAs (opens other)) lines₂ fits₂)
+    (omega arith)
+    rests
+    (replicate 4 9)
+    (Read 1 1 27)
+    (1 ∷ 1 ∷ 14 ∷ 1 ∷ [])
+    (rw (left-image .1, left-image .0) read-so))

@@ -1,146 +1,53 @@
--- A writer opened fresh, after any calls, idle and flushed: its image, cut off at the logical position, is the format's segment of the entries committed
--- since opening or recycling (`committed-segment`), and a reader of it with the writer's id yields exactly these entries (`back-from-bytes`).
-use Prim.Native.Nat.{ℕ, _+_, _≤_}
-use native.Mathlib.Omega.{arith}
-use mathlib.Core.Path.{_≡_, refl, ap, sym, _∙_, subst}
-use mathlib.Core.Bool.{true}
-use mathlib.Core.List.{List, [], _∷_, _++_, append-nil}
+-- Back from bytes (document 01, "The writer"): for a writer opened fresh, idle and flushed, after any calls, a reader given the image cut off at the
+-- logical position, with the writer's id, yields exactly the entries committed since opening or recycling. Over the code's own calls: an opening that
+-- `OpenAllows` allows, steps that `StepAllows` allows, a reading that `ReadSegmentAllows` allows.
+use Prim.Native.Nat.{ℕ, _≤_}
+use mathlib.Core.Path.{_≡_, ap, sym, _∙_, subst}
+use mathlib.Core.List.{List, _++_, append-nil}
 use lib.ListN.{length, take, replicate}
-use borrow.Author.Tests.{leb-true}
-use Rattle.lists.specs.Answers.{numberOf, first}
-use Rattle.lists.specs.ChoiceLaws.{obeyed}
-use Rattle.buffered.specs.Staging.{flushed}
-use Rattle.log_file.specs.declared.Answer.the-variants.{Accepted}
 use Rattle.entry.specs.Format.{Entry, segment}
+use Rattle.log_file.specs.declared.Answer.the-variants.{Accepted}
+use Rattle.log_file.specs.State.{Machine, position}
+use Rattle.log_file.specs.Opening.{Terms}
+use Rattle.log_file.specs.History.{fresh}
 use Rattle.segment_reader.specs.declared.survey.SegmentRead.{SegmentRead}
 use Rattle.segment_reader.specs.declared.survey.SegmentRead.the-variants.{Read}
-use Rattle.segment_reader.specs.Yielded.{asFound, ReadsBack}
-use Rattle.segment_reader.specs.Driver.{recorded, ReadSegmentAllows}
-use Rattle.segment_reader.specs.RoundTrip.{round-trip}
+use Rattle.segment_reader.specs.State.{most}
+use Rattle.segment_reader.specs.Driver.{ReadSegmentAllows}
+use Rattle.segment_reader.specs.RoundTrip.{round-trip-zeros}
 use Rattle.segment_reader.specs.ReadBack.{read-back}
-use Rattle.log_file.specs.State.{Machine, position, valid}
-use Rattle.log_file.specs.StateLaws.{facts-of}
-use Rattle.log_file.specs.Calls.{Call, Called, beginEntry, beginChunk, write, finish, commit, rollback, recycle, flush, synchronize, landing, checks, refusal, worked, acted, called}
-use Rattle.log_file.specs.Promises.{answeredAs}
-use Rattle.log_file.specs.Opening.{Terms}
-use Rattle.log_file.specs.History.{Open, nothing, anEntry, aChunk, History, fresh, base, bytes, withEntry, grow, causes, next}
-use Rattle.log_file.specs.HistoryLaws.{idle-nothing}
-use Rattle.log_file.specs.HistoryRanges.{Argued, AllRanged, fresh-ranged, next-ranged}
-use Rattle.lists.specs.All.{All}
-use Rattle.log_file.specs.Shows.{Shows}
-use Rattle.log_file.specs.ShowsLaws.{still-shows, flushed-image}
-use Rattle.journal.specs.Step.{callOf}
-use Rattle.journal.specs.Stories.{calls, Seen}
+use Rattle.journal.specs.Stories.{calls}
 use Rattle.journal.specs.Demand3.{Given}
-use Rattle.journal.specs.StoriesLaws.{shown-seen}
-use Rattle.journal.specs.CodeRuns.{Opening, OpensFresh, openedAs, Stepping, leftAs, Run, hears}
-use Rattle.journal.specs.TwoRuns.{opened-shows}
-use Rattle.journal.specs.Committed.{historyAfter, writerAfter, Typed, AtRest, HoldsSegment}
+use Rattle.journal.specs.CodeRuns.{Opening, OpensFresh, openedAs, Stepping, Run, hears}
+use Rattle.journal.specs.Committed.{historyAfter, writerAfter, Typed, AtRest, HoldsSegment, GivesBack}
+use Rattle.journal.specs.CommittedLaws.{committed-segment}
 
--- ---- the version info of a history never changes
-
-committed-info : (h : History) (o : Open) → (withEntry h o) .info ≡ h .info
-committed-info h nothing = refl
-committed-info h (anEntry id chunks) = refl
-committed-info h (aChunk id chunks n got) = refl
-
-grow-info : (h : History) (c : Call) → (grow h c) .info ≡ h .info
-grow-info h (beginEntry id) = refl
-grow-info h (beginChunk n) = refl
-grow-info h (write offered) = refl
-grow-info h finish = refl
-grow-info h commit = committed-info h (h .pending)
-grow-info h rollback = refl
-grow-info h (recycle id) = refl
-grow-info h flush = refl
-grow-info h (synchronize t) = refl
-grow-info h (landing from) = refl
-
-after-info : (n : ℕ) (h : History) (cs : List Call) → (historyAfter n h cs) .info ≡ h .info
-after-info n h [] = refl
-after-info n h (c ∷ cs) =
-    after-info n (next n h c) cs ∙ obeyed (λ (g : History). g .info ≡ h .info) (first (causes n h c)) h (grow h c) refl (λ e. grow-info h c)
-
--- ---- what a run leaves
-
-pub after-ranged : (n : ℕ) (h : History) (cs : List Call) → All Argued cs → AllRanged h → AllRanged (historyAfter n h cs)
-after-ranged n h [] t r = r
-after-ranged n h (c ∷ cs) t r = after-ranged n (next n h c) cs (t .1) (next-ranged n h c (t .0) r)
-
-pub after-shows : (n : ℕ) (m : Machine) (h : History) (xs : List Stepping) → Shows n m h → Run m xs
-    → Shows n (writerAfter m xs) (historyAfter n h (calls (hears xs)))
-after-shows n m h [] x r = x
-after-shows n m h (y ∷ ys) x r =
-    let c = callOf (y .call) (y .bytes) in
-    after-shows n (leftAs y) (next n h c) ys
-    (subst (λ u. Shows n u (next n h c)) (ap (λ (u : Called). u .machine′) (sym (r .0))) (still-shows n m h c x)) (r .1)
-
--- a flush is what brings nothing staged
-pub flush-rests : (n : ℕ) (m : Machine) (h : History) → Shows n m h → ((called m flush) .machine′) .writer .file .staged ≡ 0
-unfolding called refusal checks acted worked flushed
-flush-rests n m h x = rw (x .rules)
-
-in-image : (m : Machine) → valid m ≡ true → position (m .writer) ≤ 1048576
-in-image m e = let v = facts-of m e in omega (arith, leb-true)
-
--- ---- idle and flushed
-
-shown-segment : (n : ℕ) (m : Machine) (h : History) → Shows n m h → AllRanged h → AtRest m → HoldsSegment m (h .info) (h .committed)
-shown-segment n m h x r z =
-    let e = idle-nothing (length (base h)) (h .pending) (sym (x .moment) ∙ z .idle) in
-    let b : bytes h ≡ base h = rw e (append-nil (base h)) in
+segment-back : (m : Machine) (info : List ℕ) (es : List Entry) → HoldsSegment m info es → (before : List ℕ) (a : SegmentRead) (after : List ℕ)
+    → ReadSegmentAllows (m .writer .id) (take (position (m .writer)) (m .image)) before a after
+    → GivesBack (take (position (m .writer)) (m .image)) info es (position (m .writer)) before a after
+segment-back m info es k before a after x =
+    let file = m .writer .id in
+    let e : take (position (m .writer)) (m .image) ≡ segment info es ++ replicate 0 0 = k .image ∙ sym (append-nil (segment info es)) in
+    let l : length (segment info es ++ replicate 0 0) ≤ most = rw append-nil (subst (λ n. n ≤ most) (k .ends) (k .small)) in
+    let b = read-back file info es 0 (k .readable) l before a after (rw e at x) in
     record {
-      image = flushed-image n m h x (z .idle) (z .none-staged);
-      ends = ap (λ (s : Seen). s .position′) (shown-seen n m h x) ∙ ap length b;
-      readable = rw (x .id) (r .committed);
+      answer = b .0 ∙ ap (λ n. Read (length es) (length es) n) (sym (k .ends));
+      recorded-so = b .1;
+      yields-them = rw e (round-trip-zeros file info es (k .readable) 0 .1);
     }
 
--- over runs of the code: an opening that `OpenAllows` allows, steps that `StepAllows` allows
-pub committed-segment : (o : Terms) (g : Given) (x : Opening) → OpensFresh o g x → x .result .answer ≡ Accepted
-    → (xs : List Stepping) → Run (openedAs x) xs → Typed xs → AtRest (writerAfter (openedAs x) xs)
-    → HoldsSegment (writerAfter (openedAs x) xs) (o .info)
-    ((historyAfter (length (g .image)) (fresh (o .info) (o .id) (o .last)) (calls (hears xs))) .committed)
-committed-segment o g x p e xs r t z =
-    let n = length (g .image) in
-    let h = fresh (o .info) (o .id) (o .last) in
-    let s = after-shows n (openedAs x) h xs (opened-shows o g x p (ap (λ k. numberOf (answeredAs k)) e)) r in
-    let k = after-ranged n h (calls (hears xs)) t (fresh-ranged (o .info) (o .id) (o .last)) in
-    rw (after-info n h (calls (hears xs))) at (shown-segment n (writerAfter (openedAs x) xs) (historyAfter n h (calls (hears xs))) s k z)
+-- ---- the theorem
 
--- ---- back from bytes
+module _ (o : Terms) (g : Given) (x : Opening) (p : OpensFresh o g x) (e : x .result .answer ≡ Accepted) (xs : List Stepping) (r : Run (openedAs x) xs)
+    (t : Typed xs) (z : AtRest (writerAfter (openedAs x) xs)) where
+  abbrev pub writer-at-rest : Machine
+  writer-at-rest = writerAfter (openedAs x) xs
 
--- What a reader finds in an image that holds a segment, cut off at the writer's logical position, with the writer's id: exactly its entries, in order,
--- complete, with their chunks' bytes, and `valid_until` at that position. `reads` is over the reader's definitions, `answers` over its own calls:
--- whatever `read_segment`, which makes them, may answer and record.
-pub record GivesBack (m : Machine) (info : List ℕ) (entries : List Entry) : Type 0 where
-  pub reads : ReadsBack (m .writer .id) (take (position (m .writer)) (m .image)) info entries
-  pub ends-there : length (segment info entries) ≡ position (m .writer)
-  pub answers : (before : List ℕ) (a : SegmentRead) (after : List ℕ)
-      → ReadSegmentAllows (m .writer .id) (take (position (m .writer)) (m .image)) before a after
-      → (a ≡ Read (length entries) (length entries) (position (m .writer))) × (after ≡ recorded before 0 (asFound (5 + length info) entries))
+  abbrev pub committed-entries : List Entry
+  committed-entries = (historyAfter (length (g .image)) (fresh (o .info) (o .id) (o .last)) (calls (hears xs))) .committed
 
-held-gives-back : (m : Machine) (info : List ℕ) (entries : List Entry) → HoldsSegment m info entries → position (m .writer) ≤ 1048576
-    → GivesBack m info entries
-held-gives-back m info entries h small =
-    let image : List ℕ = take (position (m .writer)) (m .image) in
-    let few : length (segment info entries ++ replicate 0 0) ≤ 1048576 = rw append-nil (rw (h .ends) at small) in
-    record {
-      reads = rw (h .image) (round-trip (m .writer .id) info entries (h .readable));
-      ends-there = sym (h .ends);
-      answers =
-          λ before a after x.
-          let y : ReadSegmentAllows (m .writer .id) (segment info entries ++ replicate 0 0) before a after = rw append-nil (rw (h .image) at x) in
-          rw (h .ends) (read-back (m .writer .id) info entries 0 (h .readable) few before a after y);
-    }
-
--- For a writer opened fresh, idle and flushed, after any calls: over the writer's and the reader's own calls.
-pub back-from-bytes : (o : Terms) (g : Given) (x : Opening) → OpensFresh o g x → x .result .answer ≡ Accepted
-    → (xs : List Stepping) → Run (openedAs x) xs → Typed xs → AtRest (writerAfter (openedAs x) xs)
-    → GivesBack (writerAfter (openedAs x) xs) (o .info)
-    ((historyAfter (length (g .image)) (fresh (o .info) (o .id) (o .last)) (calls (hears xs))) .committed)
-back-from-bytes o g x p e xs r t z =
-    let n = length (g .image) in
-    let h = fresh (o .info) (o .id) (o .last) in
-    let m = writerAfter (openedAs x) xs in
-    let s = after-shows n (openedAs x) h xs (opened-shows o g x p (ap (λ k. numberOf (answeredAs k)) e)) r in
-    held-gives-back m (o .info) _ (committed-segment o g x p e xs r t z) (in-image m (s .rules))
+  pub back-from-bytes : (before : List ℕ) (a : SegmentRead) (after : List ℕ)
+      → ReadSegmentAllows (writer-at-rest .writer .id) (take (position (writer-at-rest .writer)) (writer-at-rest .image)) before a after
+      → GivesBack (take (position (writer-at-rest .writer)) (writer-at-rest .image)) (o .info) committed-entries (position (writer-at-rest .writer)) before
+      a after
+  back-from-bytes = segment-back writer-at-rest (o .info) committed-entries (committed-segment o g x p e xs r t z)

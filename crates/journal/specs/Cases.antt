@@ -46,20 +46,17 @@ infix 40 _gives_
 pub data Line : Type 0 where
   _gives_ : Ask → Fact → Line
 
--- asked of a reader in turn: the opening's answer; a call's answer (what follows is asked of the reader that it leaves); its place; `valid_until`
-pub data ReadAsk : Type 0 where
-  opens place validUntil : ReadAsk
-  reads : Read.Call → ReadAsk
+-- asked of a reader: a call, its answer, and `valid_until` after it
+pub record ReadLine : Type 0 where
+  pub call : Read.Call
+  pub answer : Answer
+  pub validUntil : ℕ
 
-infix 40 _finds_
-pub data ReadLine : Type 0 where
-  _finds_ : ReadAsk → Fact → ReadLine
-
--- a writer; a position, stored into 16 bytes; a reader with file id 1 over these bytes
+-- a writer; a position, stored into 16 bytes; a reader opened over an image with file id 1, the opening's answer, and what is asked of it
 pub data Case : Type 0 where
   writer : Setting → List Line → Case
   stored : LogPosition → List ℕ → Case
-  reader : (image : List ℕ) → List ReadLine → Case
+  reader : (image : List ℕ) → Answer → List ReadLine → Case
 
 -- ---- when it holds
 
@@ -81,22 +78,16 @@ expected [] = []
 expected ((ask gives f) ∷ lines) = f ∷ expected lines
 
 -- the same of a reader
-unfoldable pub readFound : (image : List ℕ) (a : Answer) → SegmentReader → List ReadLine → List Fact
-readFound image a r [] = []
-readFound image a r ((opens finds f) ∷ lines) = says a ∷ readFound image a r lines
-readFound image a r ((place finds f) ∷ lines) = number (r .place) ∷ readFound image a r lines
-readFound image a r ((validUntil finds f) ∷ lines) = number (r .«valid_until») ∷ readFound image a r lines
-readFound image a r ((reads c finds f) ∷ lines) =
-    says (answerOf (readBy c r image .reply)) ∷ readFound image a (readBy c r image .reader) lines
-
-abbrev pub readExpected : List ReadLine → List Fact
-readExpected [] = []
-readExpected ((ask finds f) ∷ lines) = f ∷ readExpected lines
+unfoldable pub readings : SegmentReader → (image : List ℕ) → List ReadLine → List ReadLine
+readings r image [] = []
+readings r image (l ∷ lines) =
+    let s = readBy (l .call) r image in
+    record { call = l .call; answer = answerOf (s .reply); validUntil = s .reader .«valid_until» } ∷ readings (s .reader) image lines
 
 abbrev pub Holds : Case → Type 0
-Holds (reader image lines) = readFound image (answerOf (new 1 image .reply)) (new 1 image .reader) lines ≡ readExpected lines
 Holds (writer s lines) = found ((openedIn s) .answer) ((openedIn s) .machine′) lines ≡ expected lines
 Holds (stored p bs) = serialized p (replicate 16 7) ≡ written (accepted []) bs
+Holds (reader image a lines) = (answerOf ((new 1 image) .reply) ≡ a) × (readings ((new 1 image) .reader) image lines ≡ lines)
 
 abbrev pub AllHold : List Case → Type 0
 AllHold [] = Unit {0}
@@ -148,11 +139,11 @@ p6 =
 
 -- version byte 1: 3
 abbrev p7 : Case
-p7 = reader (0x6F ∷ 0x6B ∷ 0x77 ∷ 0x01 ∷ 0x00 ∷ []) ((opens finds says (refused 3)) ∷ [])
+p7 = reader (0x6F ∷ 0x6B ∷ 0x77 ∷ 0x01 ∷ 0x00 ∷ []) (refused 3) []
 
 -- four bytes: 1
 abbrev p8 : Case
-p8 = reader (0x6F ∷ 0x6B ∷ 0x77 ∷ 0x00 ∷ []) ((opens finds says (refused 1)) ∷ [])
+p8 = reader (0x6F ∷ 0x6B ∷ 0x77 ∷ 0x00 ∷ []) (refused 1) []
 
 -- from 5 by -5: 0; by -6: 11; by i64::MIN: 11; to the image size: accepted; one more: 11
 abbrev p9 : Case
@@ -180,27 +171,25 @@ p11-rollback =
     ∷ (position gives number 15) ∷ (filePosition gives number 15)
     ∷ (segment gives bytes (0x6F ∷ 0x6B ∷ 0x77 ∷ 0x00 ∷ 0x00 ∷ 0x01 ∷ 0x02 ∷ 0x00 ∷ 0x00 ∷ 0x00 ∷ 0x00 ∷ 0x00 ∷ 0x00 ∷ 0x00 ∷ 0x03 ∷ [])) ∷ [])
 
--- entry 1 (empty chunk), entry 2 (no chunk), zeros to 64
-abbrev two-entries : List ℕ
-two-entries =
-    0x6F ∷ 0x6B ∷ 0x77 ∷ 0x00 ∷ 0x00 ∷ 0x01 ∷ 0x01 ∷ 0x00 ∷ 0x00 ∷ 0x00 ∷ 0x00 ∷ 0x00 ∷ 0x00 ∷ 0x00 ∷ 0x02 ∷ 0x00 ∷ 0x00 ∷ 0x00 ∷ 0x00 ∷ 0x00 ∷ 0x00 ∷ 0x00 ∷ 0x00 ∷ 0x03 ∷ 0x01 ∷ 0x02 ∷ 0x00 ∷ 0x00 ∷ 0x00 ∷ 0x00 ∷ 0x00 ∷ 0x00 ∷ 0x00 ∷ 0x03
-    ∷ replicate 30 0
+-- the second fault, double skip, as this port answers: entry 1 (empty chunk), entry 2 (no chunk), zeros to 64. Entry 2 is found at 24, then ended at 34
+abbrev twoEntries : List ℕ
+twoEntries =
+    0x6F ∷ 0x6B ∷ 0x77 ∷ 0x00 ∷ 0x00 ∷ 0x01 ∷ 0x01 ∷ 0x00 ∷ 0x00 ∷ 0x00 ∷ 0x00 ∷ 0x00 ∷ 0x00 ∷ 0x00 ∷ 0x02 ∷ 0x00 ∷ 0x00 ∷ 0x00 ∷ 0x00 ∷ 0x00 ∷ 0x00 ∷ 0x00 ∷ 0x00 ∷ 0x03 ∷ 0x01 ∷ 0x02 ∷ 0x00 ∷ 0x00 ∷ 0x00 ∷ 0x00 ∷ 0x00 ∷ 0x00 ∷ 0x00 ∷ 0x03 ∷ replicate 30 0
 
--- the second fault, double skip, as this port answers: entry 2 is found at 24, then ended at 34
+abbrev readLine : Read.Call → Answer → ℕ → ReadLine
+readLine c a v = record { call = c; answer = a; validUntil = v }
+
 abbrev p11-skip : Case
 p11-skip =
-    reader two-entries
-    ((opens finds says (accepted [])) ∷ (validUntil finds number 5) ∷ (reads nextEntry finds says (accepted (1 ∷ 1 ∷ [])))
-    ∷ (reads nextEntry finds says (accepted (1 ∷ 2 ∷ []))) ∷ (validUntil finds number 24) ∷ (reads nextEntry finds says (accepted (0 ∷ [])))
-    ∷ (validUntil finds number 34) ∷ (place finds number 34) ∷ [])
+    reader twoEntries (accepted [])
+    (readLine nextEntry (accepted (1 ∷ 1 ∷ [])) 5 ∷ readLine nextEntry (accepted (1 ∷ 2 ∷ [])) 24 ∷ readLine nextEntry (accepted (0 ∷ [])) 34 ∷ [])
 
--- the same where the chunk is opened and skipped by the call for it
-abbrev p11-skipped : Case
-p11-skipped =
-    reader two-entries
-    ((reads nextEntry finds says (accepted (1 ∷ 1 ∷ []))) ∷ (reads nextChunk finds says (accepted (1 ∷ 14 ∷ 0 ∷ [])))
-    ∷ (reads skipRest finds says (accepted [])) ∷ (place finds number 23) ∷ (reads nextEntry finds says (accepted (1 ∷ 2 ∷ [])))
-    ∷ (validUntil finds number 24) ∷ [])
+-- the same, with its chunk opened and left by a call
+abbrev p11-skip-call : Case
+p11-skip-call =
+    reader twoEntries (accepted [])
+    (readLine nextEntry (accepted (1 ∷ 1 ∷ [])) 5 ∷ readLine nextChunk (accepted (1 ∷ 14 ∷ 0 ∷ [])) 5 ∷ readLine skipRest (accepted []) 5
+    ∷ readLine nextEntry (accepted (1 ∷ 2 ∷ [])) 24 ∷ readLine nextEntry (accepted (0 ∷ [])) 34 ∷ [])
 
 abbrev pub cases : List Case
-cases = p1 ∷ p2 ∷ p3 ∷ p4 ∷ p5 ∷ p6 ∷ p7 ∷ p8 ∷ p9 ∷ p10 ∷ p11-rollback ∷ p11-skip ∷ p11-skipped ∷ []
+cases = p1 ∷ p2 ∷ p3 ∷ p4 ∷ p5 ∷ p6 ∷ p7 ∷ p8 ∷ p9 ∷ p10 ∷ p11-rollback ∷ p11-skip ∷ p11-skip-call ∷ []

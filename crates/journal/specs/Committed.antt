@@ -1,6 +1,6 @@
 -- What a run has committed since opening or recycling, the writer that it leaves, and when that writer's image is a segment of these entries: what a
--- reader has to find there. The laws are in `BackFromBytes`.
-use Prim.Native.Nat.{ℕ}
+-- reader has to find there. The laws are in `CommittedLaws`.
+use Prim.Native.Nat.{ℕ, _+_, _≤_}
 use mathlib.Core.Path.{_≡_}
 use mathlib.Core.List.{List, [], _∷_}
 use lib.ListN.{length, take}
@@ -12,6 +12,10 @@ use Rattle.log_file.specs.History.{History, next}
 use Rattle.log_file.specs.HistoryRanges.{Argued}
 use Rattle.lists.specs.All.{All}
 use Rattle.entry.specs.Writable.{Writable}
+use Rattle.segment_reader.specs.Yielded.{asFound, yielded}
+use Rattle.segment_reader.specs.Driver.{recorded}
+use Rattle.segment_reader.specs.declared.survey.SegmentRead.{SegmentRead}
+use Rattle.segment_reader.specs.declared.survey.SegmentRead.the-variants.{Read}
 use Rattle.journal.specs.Stories.{calls}
 use Rattle.journal.specs.CodeRuns.{Stepping, leftAs, hears}
 
@@ -39,4 +43,13 @@ pub record AtRest (m : Machine) : Type 0 where
 pub record HoldsSegment (m : Machine) (info : List ℕ) (entries : List Entry) : Type 0 where
   pub image : take (position (m .writer)) (m .image) ≡ segment info entries
   pub ends : position (m .writer) ≡ length (segment info entries)
+  pub small : position (m .writer) ≤ 1048576
   pub readable : All (Writable (m .writer .id)) entries
+
+-- what `read_segment`, given an image, answered (a) and recorded (`after`, where `before` stood) gives these entries back: it met exactly them, all
+-- complete, their sums right; the valid bytes end at `end`; id, place and number of chunks of each are recorded, in order and back to back from
+-- behind the header; and the data that stands there in the image is theirs
+pub record GivesBack (image info : List ℕ) (entries : List Entry) (end : ℕ) (before : List ℕ) (a : SegmentRead) (after : List ℕ) : Type 0 where
+  pub answer : a ≡ Read (length entries) (length entries) end
+  pub recorded-so : after ≡ recorded before 0 (asFound (5 + length info) entries)
+  pub yields-them : yielded image (asFound (5 + length info) entries) ≡ entries

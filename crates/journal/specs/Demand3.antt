@@ -1,6 +1,7 @@
 -- Demand 3, for the writer, as a statement about any program that opens and steps.
 -- `TwoRunHalf`: the answers of two runs agree. `FormatHalf`: each run is the one that the format gives. `Demand3` is both. That ours meets it is
--- `two-runs` of `TwoRuns`; programs that do not are in `WrongPrograms`.
+-- `two-runs` of `TwoRuns`; programs that do not are in `WrongPrograms`. The demand's last sentence, on chunks that are read in cuts, is
+-- `cuts-do-not-show` of the reader.
 use Prim.Native.Nat.{ℕ, _≤_}
 use mathlib.Core.Path.{_≡_}
 use mathlib.Core.List.{List, [], _∷_}

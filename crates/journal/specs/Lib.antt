@@ -12,5 +12,6 @@ pub mod WrongProgramsAgree
 pub mod Cases
 pub mod CasesHold
 pub mod Committed
-pub mod BackFromBytes
+pub mod CommittedLaws
 pub mod PlainReads
+pub mod BackFromBytes

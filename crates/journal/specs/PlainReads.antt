@@ -23,7 +23,7 @@ use Rattle.journal.specs.Demand3.{Given, InRange}
 use Rattle.journal.specs.CodeRuns.{Opening, OpensFresh, openedAs, Stepping, leftAs, Run, hearsOne, hears}
 use Rattle.journal.specs.TwoRuns.{opened-shows, openings-of-the-code, two-runs-of-the-code}
 use Rattle.journal.specs.Committed.{writerAfter}
-use Rattle.journal.specs.BackFromBytes.{after-shows}
+use Rattle.journal.specs.CommittedLaws.{after-shows}
 
 -- ---- what is seen at a story's end is what is seen of the writer after the run
 

@@ -1,14 +1,15 @@
 -- A writer that shows a history tells, whatever its calls, the tale of that history (`follows`); and a fresh opening is refused for the history's
 -- causes (`opening-as-told`).
-use Prim.Native.Nat.{ℕ, _+_, _-_, _/_, _≤_}
+use Prim.Native.Nat.{ℕ, _+_, _-_, _/_, _≤_, min}
 use native.Mathlib.Nat.{div-eq-of-lt, add-zero, one-mul}
 use native.Mathlib.Omega.{arith}
 use mathlib.Core.Path.{_≡_, refl, ap, sym, _∙_, subst}
 use mathlib.Core.Bool.{Bool, true, false, cond}
-use mathlib.Core.List.{List, [], _∷_, append-nil}
-use lib.ListN.{length}
+use mathlib.Core.List.{List, [], _∷_, _++_, append-nil}
+use lib.ListN.{length, take, length-append, length-take}
 use lib.Dec.{ltb}
 use borrow.Author.Tests.{ltb-false, le-ltb}
+use Rattle.lists.specs.Answers.{accepted}
 use Rattle.entry.specs.FormatLaws.{length-header}
 use Rattle.buffered.specs.declared.seek.SeekFrom.the-variants.{Start, End, Current}
 use Rattle.buffered.specs.Staging.{logical}
@@ -18,8 +19,8 @@ use Rattle.log_file.specs.StateLaws.{facts-of}
 use Rattle.log_file.specs.Calls.{Call, beginEntry, beginChunk, write, finish, commit, rollback, recycle, flush, synchronize, landing, called}
 use Rattle.log_file.specs.CallsLaws.{valid-reads}
 use Rattle.log_file.specs.Opening.{Terms, padded, openRefusal, opened}
-use Rattle.log_file.specs.History.{History, fresh, causes, bytes, next, tellable}
-use Rattle.log_file.specs.HistoryLaws.{write-joined, write-none, segment-none}
+use Rattle.log_file.specs.History.{aChunk, History, fresh, withOpen, causes, bytes, tells as tellings, told, next, tellable}
+use Rattle.log_file.specs.HistoryLaws.{length-chunk, write-joined, write-none, segment-none}
 use Rattle.log_file.specs.Shows.{Shows}
 use Rattle.log_file.specs.ShowsLaws.{same-answer, still-shows}
 use Rattle.journal.specs.Stories.{Heard, calls, Part, leftOut, piece, matching, part, Canon, canonAt, canonFrom, canon, seen, given, Story, ends, tells, storyAt, story, tale, EachTold}
@@ -103,6 +104,18 @@ follows n m h cs x =
       as-told = told-from n m h cs [] (rw (write-none n h) x) ∙ ap (λ ds. tale n h (canon ds)) (sym (calls-heard ours m cs));
       each-told = each-from n m h cs x;
     }
+
+-- ---- a single piece: what is told of it is min(offered, owed)
+
+pub piece-count : (n : ℕ) (h : History) (id : ℕ) (cs : List (List ℕ)) (k : ℕ) (got offered : List ℕ)
+    → told n (withOpen h (aChunk id cs k got)) (write offered) ≡ accepted (min (length offered) (k - length got) ∷ [])
+unfolding causes tellings
+piece-count n h id cs k got offered =
+    let more = got ++ take (k - length got) offered in
+    let l : length more ≡ length got + min (k - length got) (length offered) = simp (length-append, length-take) in
+    let a = length-chunk h id cs k more in
+    let b = length-chunk h id cs k got in
+    ap (λ (c : ℕ). accepted (c ∷ [])) (omega arith)
 
 -- ---- a fresh opening
 

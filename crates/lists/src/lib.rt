@@ -1,4 +1,4 @@
-// internal: what several crates store, test and refuse by.
+// internal: storing bytes into a buffer, sums and tests that cannot wrap, and one check of a row of refusals.
 ghost use mathlib.Core.Path.{_≡_};
 ghost use mathlib.Core.Bool.{cond};
 ghost use Prim.Native.Nat.{_+_, _-_, _≤_, min, max};
@@ -19,19 +19,21 @@ pub fn copy_at(dst: &mut [u8], at: usize, src: &[u8])
     }
 }
 
-// The larger, the smaller, the difference or 0.
+// The larger of two numbers.
 pub fn larger(a: usize, b: usize) -> usize
     ensures { λ r. ⌜ r ≡ max a b ⌝ }
 {
     if a <= b { b } else { a }
 }
 
+// The smaller of two numbers.
 pub fn smaller(a: usize, b: usize) -> usize
     ensures { λ r. ⌜ r ≡ min a b ⌝ }
 {
     if a <= b { a } else { b }
 }
 
+// a - b, or 0 where b is larger.
 pub fn less(a: usize, b: usize) -> usize
     ensures { λ r. ⌜ r ≡ a - b ⌝ }
 {

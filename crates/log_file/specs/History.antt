@@ -1,5 +1,5 @@
 -- What happened since opening or recycling, the bytes that the format gives for it, and what each call answers in these terms (document 01, "The
--- writer"). Nothing here is shared with `Calls` but the type of the calls and the numbers of refusal, so that `ShowsLaws` compares two accounts.
+-- writer"). Nothing here is shared with `Calls` but the calls, the declared types, the format and the numbers of refusal, so that `ShowsLaws` compares two accounts.
 -- The laws are in `HistoryLaws`.
 use Prim.Native.Nat.{ℕ, suc, _+_, _-_}
 use mathlib.Core.Bool.{Bool, true, false, not}

@@ -16,7 +16,7 @@ use Rattle.log_file.specs.State.{Machine, machine}
 use Rattle.log_file.specs.Calls.{Called, after, heading}
 use Rattle.log_file.specs.Promises.{answeredAs}
 
--- what two fresh openings share: id, last id, version info, preallocation
+-- the terms of an opening: id, last id, version info, preallocation. Demand 3 speaks of two fresh openings on equal terms
 pub record Terms : Type 0 where
   pub id : ℕ
   pub last : LastId

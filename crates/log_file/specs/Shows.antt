@@ -1,4 +1,4 @@
--- A writer with its buffers shows a history: equations only. What a writer that shows a history answers and becomes is in `ShowsLaws`.
+-- A writer with its buffers shows a history: equations, and one bound on an open chunk. What a writer that shows a history answers and becomes is in `ShowsLaws`.
 use Prim.Native.Nat.{ℕ, _≤_}
 use mathlib.Core.Path.{_≡_}
 use mathlib.Core.Bool.{true}

@@ -13,6 +13,7 @@ use crate::LastId;
 use crate::LogFileWriter;
 use crate::Moment;
 use entry::ChunkRecord;
+use entry::EntryId;
 use entry::LogPosition;
 
 pub enum WriteAnswer {
@@ -75,7 +76,7 @@ fn entry_begun(w: LogFileWriter, image: &mut [u8], staging: &mut [u8], id: u64) 
 }
 
 // Begins an entry: 01 and its id. Refused with 12, 6 unless idle, 7 where the id is below the segment's, 5 where there is no room.
-pub fn begin_entry(w: LogFileWriter, image: &mut [u8], staging: &mut [u8], id: u64) -> Answered
+pub fn begin_entry(w: LogFileWriter, image: &mut [u8], staging: &mut [u8], id: EntryId) -> Answered
     ensures { λ r. ⌜ BeginEntryAllows w (now (image .entry)) (now (staging .entry)) id r (now (image .exit)) (now (staging .exit)) ⌝ }
 {
     let no = begin_entry_refusal(w, image.len(), staging.len(), id);

@@ -108,7 +108,8 @@ pub fn flush(w: LogFileWriter, image: &mut [u8], staging: &mut [u8]) -> Answered
     }
 }
 
-// Notes that everything below t is on the device, after a flush where that is wanted; t past the end is allowed. Refused with 12.
+// Notes that everything below the file position is on the device, after a flush where t lies past that; nothing where so much as t is noted already. A
+// t past the end is allowed. Refused with 12.
 pub fn synchronize(w: LogFileWriter, image: &mut [u8], staging: &mut [u8], t: u64) -> Answered
     ensures { λ r. ⌜ SynchronizeAllows w (now (image .entry)) (now (staging .entry)) t r (now (image .exit)) (now (staging .exit)) ⌝ }
 {
