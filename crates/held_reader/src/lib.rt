@@ -1,0 +1,130 @@
+// The thin reader: the caller's image and a reader's state over it, held together (document 01, "It holds the caller's image and a place in it"). Each
+// call takes the struct apart and leaves the work to one call of segment_reader. What each answers is specs/Held.
+ghost use Rattle.held_reader.specs.Held.{HeldOpenAllows, HeldNewAllows, HeldWithStateAllows, HeldBytesAllows, HeldAfterBytesAllows, HeldCheckCrcAllows, HeldEntryAllows, HeldChunkAllows, HeldWholeAllows, FirstWholeAllows, FirstChunksAllows};
+use segment_reader::ChunkStep;
+use segment_reader::CrcAnswer;
+use segment_reader::EntryAnswer;
+use segment_reader::EntryStep;
+use segment_reader::OpenAnswer;
+use segment_reader::ReadStep;
+use segment_reader::SegmentReader;
+use segment_reader::WholeAnswer;
+use segment_reader::WholeStep;
+
+pub struct Reader<'a> {
+    pub image: &'a [u8],
+    pub state: SegmentReader,
+}
+
+// A reader, and whether its opening was refused: then its state is all zeros and ended.
+pub struct Opened<'a> {
+    pub reader: Reader<'a>,
+    pub answer: OpenAnswer,
+}
+
+impl<'a> Reader<'a> {
+    // Opens a reader over the image, before its first entry. Refused with 12, 1, 2, 3, 1, in this order.
+    pub fn open(image: &'a [u8], file_id: u64) -> Opened<'a>
+        ensures { λ r. ⌜ HeldOpenAllows «file_id» (image .entry) r ⌝ }
+    {
+        let opening = SegmentReader::new(image, file_id);
+        Opened {
+            reader: Reader {
+                image,
+                state: opening.reader,
+            },
+            answer: opening.answer,
+        }
+    }
+
+    // The image and a state, as an opening or any later call left it, put together.
+    pub fn new(image: &'a [u8], state: SegmentReader) -> Reader<'a>
+        ensures { λ r. ⌜ HeldNewAllows (image .entry) state r ⌝ }
+    {
+        Reader { image, state }
+    }
+
+    // The same image with another state: how a reader moves on.
+    pub fn with_state(self, state: SegmentReader) -> Reader<'a>
+        ensures { λ r. ⌜ HeldWithStateAllows (self .entry) state r ⌝ }
+    {
+        Reader {
+            image: self.image,
+            state,
+        }
+    }
+
+    // The bytes of the open chunk from the place on: a part of the image, for as long as the image is lent.
+    pub fn bytes(self, asked: u64) -> &'a [u8]
+        ensures { λ r. ⌜ HeldBytesAllows (self .entry) asked (now r) ⌝ }
+    {
+        self.state.read(self.image, asked)
+    }
+
+    // The same read as numbers, and the state behind it. Refused with 12, 6.
+    pub fn after_bytes(self, asked: u64) -> ReadStep
+        ensures { λ r. ⌜ HeldAfterBytesAllows (self .entry) asked r ⌝ }
+    {
+        self.state.after_read(self.image, asked)
+    }
+
+    pub fn check_crc(self) -> CrcAnswer
+        ensures { λ r. ⌜ HeldCheckCrcAllows (self .entry) r ⌝ }
+    {
+        self.state.check_crc(self.image)
+    }
+
+    pub fn entry(self) -> EntryStep
+        ensures { λ r. ⌜ HeldEntryAllows (self .entry) r ⌝ }
+    {
+        self.state.read_entry(self.image)
+    }
+
+    pub fn chunk(self) -> ChunkStep
+        ensures { λ r. ⌜ HeldChunkAllows (self .entry) r ⌝ }
+    {
+        self.state.read_chunk(self.image)
+    }
+
+    pub fn whole(self) -> WholeStep
+        ensures { λ r. ⌜ HeldWholeAllows (self .entry) r ⌝ }
+    {
+        self.state.read_all_chunks(self.image)
+    }
+}
+
+// The first entry of a segment: whether the segment opened, whether it has an entry, and that entry whole.
+pub struct FirstWhole {
+    pub opening: OpenAnswer,
+    pub entry: EntryAnswer,
+    pub whole: WholeStep,
+}
+
+// Opens a reader, reads the first entry, and reads it whole. Its parameters are plain, so whoever calls it needs no walk.
+pub fn first_whole(image: &[u8], file_id: u64) -> FirstWhole
+    ensures { λ r. ⌜ FirstWholeAllows «file_id» (now (image .entry)) r ⌝ }
+{
+    let opened = Reader::open(image, file_id);
+    let step = opened.reader.entry();
+    let whole = opened.reader.with_state(step.reader).whole();
+    FirstWhole {
+        opening: opened.answer,
+        entry: step.answer,
+        whole,
+    }
+}
+
+// How many chunks the first entry has, where there is one and it is whole; else 0. A caller of first_whole, with no walk.
+pub fn first_chunks(image: &[u8], file_id: u64) -> u64
+    ensures { λ r. ⌜ FirstChunksAllows «file_id» (now (image .entry)) r ⌝ }
+{
+    let first = first_whole(image, file_id);
+    let whole = first.whole;
+    let answer = whole.answer;
+    match answer {
+        WholeAnswer::Whole { place: _, chunks } => chunks,
+        WholeAnswer::Aborted => 0,
+        WholeAnswer::Cut(_) => 0,
+        WholeAnswer::Refused(_) => 0,
+    }
+}

@@ -1,0 +1,17 @@
+pub mod Words
+pub mod WriterWords
+pub mod WriterWordsLaws
+pub mod Steps
+pub mod Crossing
+pub mod CrossingLaws
+pub mod WriterPromises
+pub mod OpeningCrossing
+pub mod Positions
+pub mod WriterPromisesLaws
+pub mod ReaderWords
+pub mod ReaderWordsLaws
+pub mod ReaderSteps
+pub mod ReaderCrossing
+pub mod ReaderPromises
+pub mod ReaderCrossingLaws
+pub mod ReaderPromisesLaws

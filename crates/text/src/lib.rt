@@ -1,0 +1,147 @@
+// internal: what the programs read their words by: words of a line, numbers in decimal, bytes as pairs of hex digits. Every function answers any bytes.
+ghost use mathlib.Core.Path.{_≡_};
+ghost use Prim.Native.Nat.{_≤_, min};
+ghost use lib.ListN.{length, take};
+
+// The place of the first `stop` from `from` on; the length where there is none.
+pub fn find(s: &[u8], from: usize, stop: u8) -> usize
+    requires { ⌜ from ≤ length (now s) ⌝ }
+    ensures { λ r. ⌜ (from ≤ r) × (r ≤ length (now (s .entry))) ⌝ }
+{
+    let mut i = from;
+    while i < s.len() {
+        if s[i] == stop {
+            return i;
+        }
+        i += 1;
+    }
+    i
+}
+
+// The first n bytes, or as many as there are.
+pub fn first(s: &[u8], n: usize) -> &[u8]
+    ensures { λ r. ⌜ now r ≡ take (min n (length (now (s .entry)))) (now (s .entry)) ⌝ }
+{
+    let k = lists::smaller(n, s.len());
+    &s[..k]
+}
+
+pub fn same(a: &[u8], b: &[u8]) -> bool {
+    if a.len() != b.len() {
+        return false;
+    }
+    let mut i = 0;
+    while i < a.len() {
+        if a[i] != b[i] {
+            return false;
+        }
+        i += 1;
+    }
+    true
+}
+
+// Where the next word begins: behind the next space, or at the line's end.
+fn next_word(line: &[u8], at: usize) -> usize
+    requires { ⌜ at ≤ length (now line) ⌝ }
+    ensures { λ r. ⌜ r ≤ length (now (line .entry)) ⌝ }
+{
+    let end = find(line, at, b' ');
+    if end < line.len() { end + 1 } else { end }
+}
+
+fn word_start(line: &[u8], k: usize) -> usize
+    ensures { λ r. ⌜ r ≤ length (now (line .entry)) ⌝ }
+{
+    let mut at = 0;
+    let mut left = k;
+    while left > 0 {
+        at = next_word(line, at);
+        left -= 1;
+    }
+    at
+}
+
+// The k-th word of a line whose words are one space apart, counted from 0; empty where there is none.
+pub fn word(line: &[u8], k: usize) -> &[u8] {
+    let start = word_start(line, k);
+    let end = find(line, start, b' ');
+    &line[start..end]
+}
+
+pub enum Number {
+    Of(u64),
+    Not,
+}
+
+// n with one digit more.
+fn with_digit(n: u64, c: u8) -> Number {
+    if c < b'0' {
+        return Number::Not;
+    }
+    if c > b'9' {
+        return Number::Not;
+    }
+    let digit = (c - b'0') as u64;
+    if n > 1844674407370955161 {
+        return Number::Not;
+    }
+    if n * 10 > 18446744073709551615 - digit {
+        return Number::Not;
+    }
+    Number::Of(n * 10 + digit)
+}
+
+// A number in decimal: one digit or more and nothing else, at most 2^64 - 1.
+pub fn decimal(s: &[u8]) -> Number {
+    if s.len() == 0 {
+        return Number::Not;
+    }
+    let mut n = 0;
+    let mut i = 0;
+    while i < s.len() {
+        match with_digit(n, s[i]) {
+            Number::Of(next) => {
+                n = next;
+            }
+            Number::Not => {
+                return Number::Not;
+            }
+        }
+        i += 1;
+    }
+    Number::Of(n)
+}
+
+// The number, 0 where the word is none.
+pub fn decimal_or_zero(s: &[u8]) -> u64 {
+    match decimal(s) {
+        Number::Of(n) => n,
+        Number::Not => 0,
+    }
+}
+
+// The value of a hex digit in lower case, 0 of anything else.
+fn nibble(c: u8) -> u8
+    ensures { λ r. ⌜ r ≤ 15 ⌝ }
+{
+    match c {
+        b'0'..=b'9' => c - b'0',
+        b'a'..=b'f' => c - b'a' + 10,
+        _ => 0,
+    }
+}
+
+// Stores the bytes that pairs of hex digits stand for, as many as fit, and answers their number.
+pub fn unhex(s: &[u8], out: &mut [u8]) -> usize
+    ensures { λ r. ⌜ (r ≤ length (now (out .exit))) × (r ≡ length (take r (now (out .exit)))) ⌝ }
+{
+    let n = lists::smaller(s.len() / 2, out.len());
+    let mut i = 0;
+    while i < n {
+        let high = nibble(s[2 * i]);
+        let low = nibble(s[2 * i + 1]);
+        out[i] = high * 16 + low;
+        i += 1;
+    }
+    n
+}
