@@ -1,4 +1,5 @@
 // The numbers of an answer, and how they are written; the words of a line as numbers.
+use crate::text;
 use libc::STDOUT_FILENO;
 
 // The number of refusal, 0 where there is none, and four words.

@@ -43,89 +43,89 @@ pub enum Call {
 }
 
 pub(crate) fn named(name: &[u8]) -> Call {
-    if text::same(name, b"open") {
+    if crate::text::same(name, b"open") {
         return Call::Open;
     }
-    if text::same(name, b"reader") {
+    if crate::text::same(name, b"reader") {
         return Call::OpenReader;
     }
     entry_call(name)
 }
 
 fn entry_call(name: &[u8]) -> Call {
-    if text::same(name, b"begin") {
+    if crate::text::same(name, b"begin") {
         return Call::Writer(WriterCall::Begin);
     }
-    if text::same(name, b"chunk") {
+    if crate::text::same(name, b"chunk") {
         return Call::Writer(WriterCall::Chunk);
     }
-    if text::same(name, b"write") {
+    if crate::text::same(name, b"write") {
         return Call::Writer(WriterCall::Write);
     }
-    if text::same(name, b"finish") {
+    if crate::text::same(name, b"finish") {
         return Call::Writer(WriterCall::Finish);
     }
-    if text::same(name, b"commit") {
+    if crate::text::same(name, b"commit") {
         return Call::Writer(WriterCall::Commit);
     }
-    if text::same(name, b"rollback") {
+    if crate::text::same(name, b"rollback") {
         return Call::Writer(WriterCall::Rollback);
     }
     file_call(name)
 }
 
 fn file_call(name: &[u8]) -> Call {
-    if text::same(name, b"recycle") {
+    if crate::text::same(name, b"recycle") {
         return Call::Writer(WriterCall::Recycle);
     }
-    if text::same(name, b"flush") {
+    if crate::text::same(name, b"flush") {
         return Call::Writer(WriterCall::Flush);
     }
-    if text::same(name, b"sync") {
+    if crate::text::same(name, b"sync") {
         return Call::Writer(WriterCall::Sync);
     }
-    if text::same(name, b"start") {
+    if crate::text::same(name, b"start") {
         return Call::Writer(WriterCall::Start);
     }
-    if text::same(name, b"end") {
+    if crate::text::same(name, b"end") {
         return Call::Writer(WriterCall::End);
     }
-    if text::same(name, b"current") {
+    if crate::text::same(name, b"current") {
         return Call::Writer(WriterCall::Current);
     }
     reader_call(name)
 }
 
 fn reader_call(name: &[u8]) -> Call {
-    if text::same(name, b"entry") {
+    if crate::text::same(name, b"entry") {
         return Call::Reader(ReaderCall::Entry);
     }
-    if text::same(name, b"next") {
+    if crate::text::same(name, b"next") {
         return Call::Reader(ReaderCall::Next);
     }
-    if text::same(name, b"data") {
+    if crate::text::same(name, b"data") {
         return Call::Reader(ReaderCall::Data);
     }
-    if text::same(name, b"check") {
+    if crate::text::same(name, b"check") {
         return Call::Reader(ReaderCall::Check);
     }
-    if text::same(name, b"skip") {
+    if crate::text::same(name, b"skip") {
         return Call::Reader(ReaderCall::Skip);
     }
-    if text::same(name, b"whole") {
+    if crate::text::same(name, b"whole") {
         return Call::Reader(ReaderCall::Whole);
     }
     small_call(name)
 }
 
 fn small_call(name: &[u8]) -> Call {
-    if text::same(name, b"put") {
+    if crate::text::same(name, b"put") {
         return Call::Small(SmallCall::Put);
     }
-    if text::same(name, b"get") {
+    if crate::text::same(name, b"get") {
         return Call::Small(SmallCall::Get);
     }
-    if text::same(name, b"sum") {
+    if crate::text::same(name, b"sum") {
         return Call::Small(SmallCall::Sum);
     }
     Call::Small(SmallCall::Unknown)

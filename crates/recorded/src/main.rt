@@ -7,6 +7,7 @@
 ghost use mathlib.Core.Path.{_≡_};
 ghost use lib.ListN.{length};
 
+mod text;
 mod answers;
 mod calls;
 mod reader;

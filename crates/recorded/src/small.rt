@@ -1,4 +1,5 @@
 // Positions and sums, replayed.
+use crate::text;
 use crate::answers;
 use crate::calls::SmallCall;
 use entry::Deserialized;

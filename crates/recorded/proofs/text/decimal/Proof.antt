@@ -3,8 +3,8 @@ use Prim.Native.Nat.{_-_, _≤_}
 use native.Mathlib.Omega.{arith}
 use lib.ListN.{length}
 use borrow.Author.Needs.{needs}
-use Rattle.text.proofs.decimal.Statement.{statement}
-use Rattle.text.proofs.decimal.Tie as tie
+use Rattle.recorded.proofs.text.decimal.Statement.{statement}
+use Rattle.recorded.proofs.text.decimal.Tie as tie
 
 abbrev Inv-loop : tie.InvT-loop
 Inv-loop s n₀ i₀ n i = i ≤ length s

@@ -3,8 +3,8 @@ use Prim.Native.Nat.{_-_}
 use native.Mathlib.Omega.{arith}
 use lib.ListN.{length-take}
 use borrow.Author.Needs.{needs}
-use Rattle.text.proofs.first.Statement.{statement}
-use Rattle.text.proofs.first.Tie as tie
+use Rattle.recorded.proofs.text.first.Statement.{statement}
+use Rattle.recorded.proofs.text.first.Tie as tie
 
 smaller-requires : tie.Need-smaller-requires
 smaller-requires c κs = search needs

@@ -2,8 +2,8 @@
 use Prim.Native.Nat.{_-_, _≤_}
 use native.Mathlib.Omega.{arith}
 use lib.ListN.{length}
-use Rattle.text.proofs.find.Statement.{statement}
-use Rattle.text.proofs.find.Tie as tie
+use Rattle.recorded.proofs.text.find.Statement.{statement}
+use Rattle.recorded.proofs.text.find.Tie as tie
 
 abbrev Inv-loop : tie.InvT-loop
 Inv-loop s from stop i₀ i = (from ≤ i) × (i ≤ length s)

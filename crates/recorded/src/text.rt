@@ -1,4 +1,4 @@
-// internal: what the programs read their words by: words of a line, numbers in decimal, bytes as pairs of hex digits. Every function answers any bytes.
+// What the replay reads its words by: words of a line, numbers in decimal, bytes as pairs of hex digits. Every function answers any bytes.
 ghost use mathlib.Core.Path.{_≡_};
 ghost use Prim.Native.Nat.{_≤_, min};
 ghost use lib.ListN.{length, take};

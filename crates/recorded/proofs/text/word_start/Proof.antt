@@ -3,8 +3,8 @@ use Prim.Native.Nat.{_-_, _≤_}
 use native.Mathlib.Omega.{arith}
 use lib.ListN.{length}
 use borrow.Author.Needs.{needs}
-use Rattle.text.proofs.word_start.Statement.{statement}
-use Rattle.text.proofs.word_start.Tie as tie
+use Rattle.recorded.proofs.text.word_start.Statement.{statement}
+use Rattle.recorded.proofs.text.word_start.Tie as tie
 
 abbrev Inv-loop : tie.InvT-loop
 Inv-loop line k at₀ left₀ at left = at ≤ length line

@@ -3,8 +3,8 @@ use Prim.Native.Nat.{_-_, _≤_}
 use native.Mathlib.Omega.{arith}
 use lib.ListN.{length}
 use borrow.Author.Needs.{needs}
-use Rattle.text.proofs.same.Statement.{statement}
-use Rattle.text.proofs.same.Tie as tie
+use Rattle.recorded.proofs.text.same.Statement.{statement}
+use Rattle.recorded.proofs.text.same.Tie as tie
 
 abbrev Inv-loop : tie.InvT-loop
 Inv-loop a b i₀ i = i ≤ length a

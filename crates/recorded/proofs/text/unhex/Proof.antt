@@ -5,8 +5,8 @@ use native.Mathlib.Omega.{arith}
 use lib.ListN.{length, length-take}
 use borrow.Author.Needs.{needs}
 use mathlib.Core.Path.{_≡_, refl}
-use Rattle.text.proofs.unhex.Statement.{statement}
-use Rattle.text.proofs.unhex.Tie as tie
+use Rattle.recorded.proofs.text.unhex.Statement.{statement}
+use Rattle.recorded.proofs.text.unhex.Tie as tie
 
 abbrev Inv-loop : tie.InvT-loop
 Inv-loop s out₀ n i₀ out i = (i ≤ n) × (length out ≡ length out₀)
