@@ -1,4 +1,5 @@
--- What the thin reader's calls promise: what the call by value promises of the state that the reader holds and of the image behind its reference.
+-- What the thin reader's calls promise: what the call by value promises (segment_reader, `Promises`) of the state that the reader holds and of the image behind
+-- its reference. A reader that is handed back holds the very reference. That each promise allows one answer is in `HeldLaws`.
 use mathlib.Core.List.{List}
 use mathlib.Core.Path.{_≡_}
 use Prim.Native.Nat.{ℕ}
@@ -20,10 +21,6 @@ use Rattle.held_reader.specs.declared.FirstWhole.{FirstWhole}
 -- the image, the very reference, beside a state
 abbrev pub held : RefT (List ℕ) → SegmentReader → Reader
 held image state = record { image = image; state = state }
-
--- the opening by value, put around the image
-abbrev pub heldOpening : RefT (List ℕ) → Opening → Opened
-heldOpening image s = record { reader = held image (s .reader); answer = s .answer }
 
 -- the opening by value that a held one is made of
 abbrev pub byValue : Opened → Opening

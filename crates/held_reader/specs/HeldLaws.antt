@@ -15,7 +15,7 @@ use Rattle.segment_reader.specs.declared.ReadStep.{ReadStep}
 use Rattle.segment_reader.specs.declared.CrcAnswer.{CrcAnswer}
 use Rattle.segment_reader.specs.declared.WholeAnswer.{WholeAnswer}
 use Rattle.segment_reader.specs.declared.WholeStep.{WholeStep}
-use Rattle.held_reader.specs.Held.{held, byValue, HeldOpenAllows, HeldNewAllows, HeldWithStateAllows, HeldBytesAllows, HeldAfterBytesAllows, HeldCheckCrcAllows, HeldEntryAllows, HeldChunkAllows, HeldWholeAllows, chunksIn, FirstWholeAllows, FirstChunksAllows}
+use Rattle.held_reader.specs.Held.{byValue, HeldOpenAllows, HeldNewAllows, HeldWithStateAllows, HeldBytesAllows, HeldAfterBytesAllows, HeldCheckCrcAllows, HeldEntryAllows, HeldChunkAllows, HeldWholeAllows, chunksIn, FirstWholeAllows, FirstChunksAllows}
 use Rattle.held_reader.specs.declared.Reader.{Reader}
 use Rattle.held_reader.specs.declared.Opened.{Opened}
 use Rattle.held_reader.specs.declared.FirstWhole.{FirstWhole}

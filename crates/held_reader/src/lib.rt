@@ -1,5 +1,6 @@
 // The thin reader: the caller's image and a reader's state over it, held together (document 01, "It holds the caller's image and a place in it"). Each
-// call takes the struct apart and leaves the work to one call of segment_reader. What each answers is specs/Held.
+// call takes the struct apart and leaves the work, every branch too, to one call of segment_reader; none requires anything. What each answers is
+// specs/Held. A function that has a `Reader` among its parameters or locals is proved by hand; a caller of first_whole is not.
 ghost use Rattle.held_reader.specs.Held.{HeldOpenAllows, HeldNewAllows, HeldWithStateAllows, HeldBytesAllows, HeldAfterBytesAllows, HeldCheckCrcAllows, HeldEntryAllows, HeldChunkAllows, HeldWholeAllows, FirstWholeAllows, FirstChunksAllows};
 use segment_reader::ChunkStep;
 use segment_reader::CrcAnswer;
@@ -11,6 +12,7 @@ use segment_reader::SegmentReader;
 use segment_reader::WholeAnswer;
 use segment_reader::WholeStep;
 
+// The caller's own image, and the state that the next call begins with.
 pub struct Reader<'a> {
     pub image: &'a [u8],
     pub state: SegmentReader,
@@ -54,38 +56,44 @@ impl<'a> Reader<'a> {
         }
     }
 
-    // The bytes of the open chunk from the place on: a part of the image, for as long as the image is lent.
+    // The bytes of the open chunk from the place on, at most so many as are asked for, owed and present: a part of the image, for as long as the image
+    // itself is lent. Empty beside a refusal; after_bytes says which, and hands back the state behind them.
     pub fn bytes(self, asked: u64) -> &'a [u8]
         ensures { λ r. ⌜ HeldBytesAllows (self .entry) asked (now r) ⌝ }
     {
         self.state.read(self.image, asked)
     }
 
-    // The same read as numbers, and the state behind it. Refused with 12, 6.
+    // The same read as numbers: where the part begins, how long it is, and the state behind it. Refused with 12, 6.
     pub fn after_bytes(self, asked: u64) -> ReadStep
         ensures { λ r. ⌜ HeldAfterBytesAllows (self .entry) asked r ⌝ }
     {
         self.state.after_read(self.image, asked)
     }
 
+    // Whether the open chunk's stored CRC is that of its data. Refused with 12, 6, also while bytes are owed; 9 where the CRC is cut. Nothing moves.
     pub fn check_crc(self) -> CrcAnswer
         ensures { λ r. ⌜ HeldCheckCrcAllows (self .entry) r ⌝ }
     {
         self.state.check_crc(self.image)
     }
 
+    // The next entry, or the end, and the state behind it; what is left of a current entry is skipped. Refused with 12; 9 where a chunk's header is cut.
     pub fn entry(self) -> EntryStep
         ensures { λ r. ⌜ HeldEntryAllows (self .entry) r ⌝ }
     {
         self.state.read_entry(self.image)
     }
 
+    // The next chunk of the current entry, its end, or that it is aborted, and the state behind it. Refused with 12, 6; 9 where the chunk's header is cut.
     pub fn chunk(self) -> ChunkStep
         ensures { λ r. ⌜ HeldChunkAllows (self .entry) r ⌝ }
     {
         self.state.read_chunk(self.image)
     }
 
+    // The rest of the current entry, each chunk's CRC checked: where its chunks begin and how many there are, or that it is aborted, and the state behind it.
+    // Refused with 12, 6; 9 where a chunk is cut; 10 where a stored CRC differs.
     pub fn whole(self) -> WholeStep
         ensures { λ r. ⌜ HeldWholeAllows (self .entry) r ⌝ }
     {
@@ -100,7 +108,8 @@ pub struct FirstWhole {
     pub whole: WholeStep,
 }
 
-// Opens a reader, reads the first entry, and reads it whole. Its parameters are plain, so whoever calls it needs no walk.
+// Opens a reader, reads the first entry, and reads it whole: all three answers, and the state behind them. Where there is no such entry the last one
+// is refused, with 12 or 6. Its parameters are plain, so whoever calls it needs no walk.
 pub fn first_whole(image: &[u8], file_id: u64) -> FirstWhole
     ensures { λ r. ⌜ FirstWholeAllows «file_id» (now (image .entry)) r ⌝ }
 {
@@ -114,7 +123,7 @@ pub fn first_whole(image: &[u8], file_id: u64) -> FirstWhole
     }
 }
 
-// How many chunks the first entry has, where there is one and it is whole; else 0. A caller of first_whole, with no walk.
+// How many chunks the first entry has, where there is one and it is whole; else 0. It calls first_whole, and is covered.
 pub fn first_chunks(image: &[u8], file_id: u64) -> u64
     ensures { λ r. ⌜ FirstChunksAllows «file_id» (now (image .entry)) r ⌝ }
 {

@@ -1,5 +1,5 @@
 -- A reader's words in their ranges, by the moment that they tell.
-use mathlib.Core.Path.{_≡_, refl, ap, sym, _∙_}
+use mathlib.Core.Path.{_≡_, refl, ap, _∙_}
 use mathlib.Core.Bool.{Bool, true, false, cond}
 use mathlib.Core.List.{List, [], _∷_}
 use Prim.Native.Nat.{ℕ, zero, suc, _≤_}
@@ -7,7 +7,7 @@ use native.Mathlib.Omega.{arith}
 use lib.ListN.{getD}
 use lib.Dec.{leb}
 use borrow.Author.Tests.{leb-true}
-use Rattle.lists.specs.Answers.{Answer, refused, all}
+use Rattle.lists.specs.Answers.{refused, all}
 use Rattle.lists.specs.AnswersLaws.{every}
 use Rattle.segment_reader.specs.declared.ChunkCut.{ChunkCut}
 use Rattle.segment_reader.specs.declared.Moment.{Moment}

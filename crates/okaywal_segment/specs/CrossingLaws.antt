@@ -9,14 +9,11 @@ use lib.Seq.{drop-set-lt}
 use Rattle.lists.specs.Lay.{lay}
 use Rattle.lists.specs.Answers.{Answer, accepted, refused, numberOf, obey}
 use Rattle.lists.specs.ChoiceLaws.{either, obeyed}
-use Rattle.log_file.specs.declared.Moment.{Moment}
-use Rattle.log_file.specs.declared.Moment.the-variants.{Idle, InEntry, InChunk}
-use Rattle.log_file.specs.declared.LogFileWriter.{LogFileWriter}
 use Rattle.log_file.specs.State.{Machine, machine}
 use Rattle.log_file.specs.Calls.{Call, Called, called}
 use Rattle.log_file.specs.CallsLaws.{refused-keeps}
 use Rattle.okaywal_segment.specs.Words.{answerWords}
-use Rattle.okaywal_segment.specs.WriterWords.{momentWords, writerWords, writerFrom, writerFits}
+use Rattle.okaywal_segment.specs.WriterWords.{writerWords, writerFrom, writerFits}
 use Rattle.okaywal_segment.specs.WriterWordsLaws.{length-writerWords}
 use Rattle.okaywal_segment.specs.Steps.{enough}
 use Rattle.okaywal_segment.specs.Crossing.{Left, left, wanted, moves, restated, handed, crossed, WriterAllows}

@@ -2,12 +2,12 @@
 -- it is lent (include/okaywal_segment.h, "Answers" and "State"). The image is lent to be read only.
 use Prim.Native.Nat.{ℕ}
 use mathlib.Core.Path.{_≡_}
-use mathlib.Core.Bool.{Bool, true, false, cond, _&&_, _||_}
+use mathlib.Core.Bool.{Bool, true, false, cond, _||_}
 use mathlib.Core.List.{List, []}
 use lib.ListN.{replicate}
 use lib.Dec.{eqb}
 use Rattle.lists.specs.Lay.{lay}
-use Rattle.lists.specs.Answers.{Answer, numberOf}
+use Rattle.lists.specs.Answers.{numberOf}
 use Rattle.segment_reader.specs.Calls.{Call, nextEntry, nextChunk, crcCheck, skipRest, wholeEntry, dataRead, Step, answerOf, readBy, new}
 use Rattle.okaywal_segment.specs.Words.{answerWords}
 use Rattle.okaywal_segment.specs.ReaderWords.{readerWords, readerFrom, readerFits}

@@ -1,6 +1,6 @@
 -- Any two outcomes that a function of a reader allows are equal: the number, and every slice that it is lent.
 use Prim.Native.Nat.{ℕ}
-use mathlib.Core.Path.{_≡_, sym, _∙_}
+use mathlib.Core.Path.{sym, _∙_}
 use mathlib.Core.List.{List, []}
 use Rattle.segment_reader.specs.Calls.{nextEntry, nextChunk, crcCheck, skipRest, wholeEntry, dataRead}
 use Rattle.okaywal_segment.specs.ReaderCrossingLaws.{Same, same-read, one-answer}

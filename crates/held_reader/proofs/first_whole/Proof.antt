@@ -1,7 +1,6 @@
 -- `first_whole` meets its contract: a walk of its MIR, by hand. A reader is opened and held in a local, and three calls are made on it and on what they answer: the
 -- next entry, the reader with the state behind it, and the entry whole. All that the proof knows of the four calls is that each meets its contract; that these
 -- together are this function's is `first-whole-is`.
--- In a local of a body MIR erases the lifetime of a struct's type, so a value is shown to have its type at `erased`: what a struct owns does not say the lifetime's name.
 use mathlib.Core.Path.{_≡_, refl, ap, subst}
 use mathlib.Core.Bool.{true, _&&_}
 use Prim.Native.Nat.{ℕ, _<_, _^_}
@@ -34,7 +33,6 @@ use denote.Signature.{plain, namedLft}
 use denote.Slice.{sliceVal, ShrSlice, slice-vals, shr-slice-tells, shr-slice-lawful, shr-slice-copy}
 use denote.Steps.{owned, only, peeks, heard, nothing}
 use denote.Enum.Laws as EL
-use denote.Struct.Declared.{Declared}
 use denote.Struct.Laws as LL
 use denote.Struct.Rest.{all-own, own-open, own-shut}
 use denote.Triple.Statement.{Contract, Triple}
@@ -43,7 +41,7 @@ use denote.Triple.Clauses.{ensured, lasts}
 use denote.Triple.Entry.{Vals, onEntry}
 use denote.Triple.Spec.{Meets, tripleOf}
 use denote.Triple.Table.{entered, cited}
-use denote.Triple.Walked.{says, Stays, stay-none, stay-none-slice, walkOf, goes-none, goes-none-slice, Walks, ends-at, walked, walk-meets}
+use denote.Triple.Walked.{says, Stays, stay-none, stay-none-slice, walkOf, goes-none, goes-none-slice, ends-at, walked, walk-meets}
 use denote.Exit.{yes}
 use Rattle.segment_reader.specs.declared.EntryStep.{EntryStep}
 use Rattle.segment_reader.specs.declared.WholeStep.{WholeStep}
@@ -70,19 +68,15 @@ use Rattle.held_reader.proofs.FirstWhole as F
 use Rattle.held_reader.proofs.FirstWhole.Laws as F′
 use Rattle.held_reader.proofs.Reader.open as opn
 use Rattle.held_reader.proofs.Reader.open.Symbol as opn-def
-use Rattle.held_reader.proofs.Reader.open.Symbol.{name as #held-reader·open}
 use Rattle.held_reader.proofs.Reader.open.Met as opn-thm
 use Rattle.held_reader.proofs.Reader.entry as ent′
 use Rattle.held_reader.proofs.Reader.entry.Symbol as ent-def
-use Rattle.held_reader.proofs.Reader.entry.Symbol.{name as #held-reader·entry}
 use Rattle.held_reader.proofs.Reader.entry.Met as ent-thm
 use Rattle.held_reader.proofs.Reader.with_state as wst
 use Rattle.held_reader.proofs.Reader.with_state.Symbol as wst-def
-use Rattle.held_reader.proofs.Reader.with_state.Symbol.{name as #held-reader·with-state}
 use Rattle.held_reader.proofs.Reader.with_state.Met as wst-thm
 use Rattle.held_reader.proofs.Reader.whole as whl
 use Rattle.held_reader.proofs.Reader.whole.Symbol as whl-def
-use Rattle.held_reader.proofs.Reader.whole.Symbol.{name as #held-reader·whole}
 use Rattle.held_reader.proofs.Reader.whole.Met as whl-thm
 use Rattle.held_reader.proofs.first_whole.Key.{name as #held-reader·first-whole}
 use Rattle.held_reader.proofs.first_whole as fn
@@ -110,7 +104,7 @@ module _ {M : Type 1} (𝓤 : URA M) (H : Heap 𝓤) (A : Atoms 𝓤) (W : Given
   abbrev α : NamedLft
   α = namedLft 1 0 tt (κ, tt)
 
-  -- the lifetime as a local of a body has it
+  -- the lifetime as a local of a body has it: MIR erases its name there, and what a struct owns does not say it
   abbrev αᵉ : NamedLft
   αᵉ = record { mir = erased; lft = κ }
 
@@ -126,9 +120,6 @@ module _ {M : Type 1} (𝓤 : URA M) (H : Heap 𝓤) (A : Atoms 𝓤) (W : Given
 
   abbrev mT : Opened → Val
   mT o = LL.val (T.the-type α) (T′.the-laws α) (o .reader)
-
-  abbrev mOS : Opened → Val
-  mOS o = LL.val S.the-type S′.the-laws (o .reader .state)
 
   abbrev mOA : Opened → Val
   mOA o = EL.val OA.the-type OA′.the-laws (o .answer)
@@ -176,11 +167,13 @@ module _ {M : Type 1} (𝓤 : URA M) (H : Heap 𝓤) (A : Atoms 𝓤) (W : Given
   open-said : (o : Opened) → ent 𝓤 (ensured 𝓤 H A opn.ended (opn.clauses 𝓤 H A mem run) (κ, tt) (s, (n, tt)) tt o) (fact 𝓤 (HeldOpenAllows n s o))
   open-said o = exE 𝓤 _ (λ ws. snd∗ 𝓤 (sem 𝓤 H A (lasts opn.ended (κ, tt) (s, (n, tt)) ws)) (fact 𝓤 (HeldOpenAllows n s o)))
 
-  abbrev to-entry : Opened → Enters 𝓤 H A mem run .Ghost
-  to-entry o = (((κ, tt), (q, tt), tt, (o .reader, tt), (mT o ∷ [], tt)), tt)
+  -- a call on the reader r alone, with the machine value u: the same for `entry` and `whole`
+  abbrev to-held : Reader → Val → Reads 𝓤 H A mem run .Ghost
+  to-held r u = (((κ, tt), (q, tt), tt, (r, tt), (u ∷ [], tt)), tt)
 
-  goes-entry : (o : Opened) → ent 𝓤 (⋆ 𝓤 H A (‵ (OwnT o) ∷ (‵ (flft κ q) ⊛ ‵ ftrue) ∷ [])) (Enters 𝓤 H A mem run .pre (to-entry o))
-  goes-entry o = qed W (‵ (OwnT o) ∷ (‵ (flft κ q) ⊛ ‵ ftrue) ∷ []) ∵ nothing ! $ move ! (1 ∷ 0 ∷ []) $ fjoin ! $ move ! (1 ∷ 0 ∷ []) $ join ! $ frame ! $ done !
+  goes-held : (r : Reader) (u : Val) → ent 𝓤 (⋆ 𝓤 H A (‵ (B .own r (u ∷ [])) ∷ (‵ (flft κ q) ⊛ ‵ ftrue) ∷ [])) (Reads 𝓤 H A mem run .pre (to-held r u))
+  goes-held r u =
+      qed W (‵ (B .own r (u ∷ [])) ∷ (‵ (flft κ q) ⊛ ‵ ftrue) ∷ []) ∵ nothing ! $ move ! (1 ∷ 0 ∷ []) $ fjoin ! $ move ! (1 ∷ 0 ∷ []) $ join ! $ frame ! $ done !
 
   entry-said : (o : Opened) (e : EntryStep) → ent 𝓤 (ensured 𝓤 H A ent′.ended (ent′.clauses 𝓤 H A mem run) (κ, tt) (o .reader, tt) tt e) (fact 𝓤 (HeldEntryAllows (o .reader) e))
   entry-said o e = exE 𝓤 _ (λ ws. snd∗ 𝓤 (sem 𝓤 H A (lasts ent′.ended (κ, tt) (o .reader, tt) ws)) (fact 𝓤 (HeldEntryAllows (o .reader) e)))
@@ -194,13 +187,6 @@ module _ {M : Type 1} (𝓤 : URA M) (H : Heap 𝓤) (A : Atoms 𝓤) (W : Given
   move-said : (o : Opened) (e : EntryStep) (r : Reader) → ent 𝓤 (ensured 𝓤 H A wst.ended (wst.clauses 𝓤 H A mem run) (κ, tt) (o .reader, (e .reader, tt)) tt r) (fact 𝓤 (HeldWithStateAllows (o .reader) (e .reader) r))
   move-said o e r = exE 𝓤 _ (λ ws. snd∗ 𝓤 (sem 𝓤 H A (lasts wst.ended (κ, tt) (o .reader, (e .reader, tt)) ws)) (fact 𝓤 (HeldWithStateAllows (o .reader) (e .reader) r)))
 
-  -- the last call, at the reader r with the machine value u
-  abbrev to-whole : Reader → Val → Reads 𝓤 H A mem run .Ghost
-  to-whole r u = (((κ, tt), (q, tt), tt, (r, tt), (u ∷ [], tt)), tt)
-
-  goes-whole : (r : Reader) (u : Val) → ent 𝓤 (⋆ 𝓤 H A (‵ (B .own r (u ∷ [])) ∷ (‵ (flft κ q) ⊛ ‵ ftrue) ∷ [])) (Reads 𝓤 H A mem run .pre (to-whole r u))
-  goes-whole r u = qed W (‵ (B .own r (u ∷ [])) ∷ (‵ (flft κ q) ⊛ ‵ ftrue) ∷ []) ∵ nothing ! $ move ! (1 ∷ 0 ∷ []) $ fjoin ! $ move ! (1 ∷ 0 ∷ []) $ join ! $ frame ! $ done !
-
   whole-said : (r : Reader) (w : WholeStep) → ent 𝓤 (ensured 𝓤 H A whl.ended (whl.clauses 𝓤 H A mem run) (κ, tt) (r, tt) tt w) (fact 𝓤 (HeldWholeAllows r w))
   whole-said r w = exE 𝓤 _ (λ ws. snd∗ 𝓤 (sem 𝓤 H A (lasts whl.ended (κ, tt) (r, tt) ws)) (fact 𝓤 (HeldWholeAllows r w)))
 
@@ -212,7 +198,7 @@ module _ {M : Type 1} (𝓤 : URA M) (H : Heap 𝓤) (A : Atoms 𝓤) (W : Given
       -- [the entry whole; the entry's answer; the opening's]
       nothing ! $ move ! (1 ∷ 0 ∷ []) $ fjoin ! $ move ! (1 ∷ 0 ∷ []) $ fjoin ! $ move ! (1 ∷ 0 ∷ []) $ fjoin ! $ by ! (own-shut 𝓤 H A W F.the-type F′.the-laws (o .answer, (e .answer, (w, tt))))
 
-  module _ (C : Calls 𝓤 H) (Λ : Loops 𝓤 H) (fm : FmC 𝓤 H (W .laws) C) (opens : Triple 𝓤 (C #held-reader·open) (Opens 𝓤 H A mem run)) (enters : Triple 𝓤 (C #held-reader·entry) (Enters 𝓤 H A mem run)) (moves : Triple 𝓤 (C #held-reader·with-state) (Moves 𝓤 H A mem run)) (reads : Triple 𝓤 (C #held-reader·whole) (Reads 𝓤 H A mem run)) where
+  module _ (C : Calls 𝓤 H) (Λ : Loops 𝓤 H) (fm : FmC 𝓤 H (W .laws) C) (opens : Triple 𝓤 (C opn-def.name) (Opens 𝓤 H A mem run)) (enters : Triple 𝓤 (C ent-def.name) (Enters 𝓤 H A mem run)) (moves : Triple 𝓤 (C wst-def.name) (Moves 𝓤 H A mem run)) (reads : Triple 𝓤 (C whl-def.name) (Reads 𝓤 H A mem run)) where
     walk : Is (ShrSlice (named 0) κ u8) s (v ∷ []) → ent 𝓤 (onEntry 𝓤 H A fn.signature (κ, tt) (q, tt) (s, (n, tt)) at) (WpFn 𝓤 H C Λ code.function (v ∷ vint w64 n ∷ []) Post)
     walk p =
         qed W (raw (onEntry 𝓤 H A fn.signature (κ, tt) (q, tt) (s, (n, tt)) at) ∷ []) ∵ enter ! C Λ code.function (v ∷ vint w64 n ∷ []) _ $
@@ -231,9 +217,9 @@ module _ {M : Type 1} (𝓤 : URA M) (H : Heap 𝓤) (A : Atoms 𝓤) (W : Given
         fsplit ! $ move ! (1 ∷ []) $ fsplit ! $ move ! (1 ∷ []) $ drop ! $ move ! (1 ∷ []) $ use1 W (‵ (OwnT o) ⊛ ‵ (OwnT o)) (LL.copy (T.the-type α) (T′.the-copy α) 𝓤 H A W .twice (o .reader) (mT o ∷ [])) $ split ! $
         -- [the reader; the reader; the opening's answer; the token; the slice; _9 5; _8 7; _7 9; _6 11; _5 13; _4 15; _3 17; _2 19; _1 21; _0 23]
         assigns ! (of-opd ! (load ! (from ! (fld ! refl (stop !))) (look-in ! 17 (sub ! 0 refl (whole !))))) (from ! (stop !)) (init ! 11 refl (held-typed u o is)) $
-        move ! (0 ∷ 3 ∷ []) $ use2 W (raw (Enters 𝓤 H A mem run .pre (to-entry o))) (goes-entry o) $
+        move ! (0 ∷ 3 ∷ []) $ use2 W (raw (Enters 𝓤 H A mem run .pre (to-held (o .reader) (mT o)))) (goes-held (o .reader) (mT o)) $
         -- [what entry asks; the reader; the opening's answer; the slice; _9 4; _8 6; _7 8; _6 10; _5 12; _4 14; _3 16; _2 18; _1 20; _0 22]
-        calls-at ! fm (Enters 𝓤 H A mem run) enters (to-entry o) (and-then ! (load ! (from ! (stop !)) (look ! 10 refl)) (no-more !)) (λ u′.
+        calls-at ! fm (Enters 𝓤 H A mem run) enters (to-held (o .reader) (mT o)) (and-then ! (load ! (from ! (stop !)) (look ! 10 refl)) (no-more !)) (λ u′.
         use1 W (later (some (λ (e : EntryStep). ((‵ (flft κ q) ⊛ ‵ ftrue) ⊛ ‵ (E.the-row .own e (u′ ∷ []))) ⊛ raw (ensured 𝓤 H A ent′.ended (ent′.clauses 𝓤 H A mem run) (κ, tt) (o .reader, tt) tt e)))) (id⊢ 𝓤 _) $ await ! tt $ pick ! (λ e.
         split ! $ move ! (1 ∷ []) $ use1 W (raw (fact 𝓤 (HeldEntryAllows (o .reader) e))) (entry-said o e) $ heard ! (HeldEntryAllows (o .reader) e) (λ f′. split ! $ move ! (1 ∷ []) $
         peeks ! E.the-row (Is E.the-row) (shows 𝓤 H A E.the-row) e (u′ ∷ []) (λ is′.
@@ -253,9 +239,9 @@ module _ {M : Type 1} (𝓤 : URA M) (H : Heap 𝓤) (A : Atoms 𝓤) (W : Given
         peeks ! B (Is B) (shows 𝓤 H A B) r (u″ ∷ []) (λ is″.
         -- [the reader moved on; the token; the entry's answer; the opening's; the slice; _9 5; _8 7; _7 9; …]
         land ! (from ! (stop !)) (init ! 9 refl (LL.lawful (T.the-type αᵉ) (T′.the-laws αᵉ) 𝓤 H A W .typed r _ is″ .0)) $
-        use2 W (raw (Reads 𝓤 H A mem run .pre (to-whole r u″))) (goes-whole r u″) $
+        use2 W (raw (Reads 𝓤 H A mem run .pre (to-held r u″))) (goes-held r u″) $
         -- [what whole asks; the entry's answer; the opening's; the slice; _9 4; _8 6; _7 8; …]
-        calls-at ! fm (Reads 𝓤 H A mem run) reads (to-whole r u″) (and-then ! (load ! (from ! (stop !)) (look ! 8 refl)) (no-more !)) (λ u‴.
+        calls-at ! fm (Reads 𝓤 H A mem run) reads (to-held r u″) (and-then ! (load ! (from ! (stop !)) (look ! 8 refl)) (no-more !)) (λ u‴.
         use1 W (later (some (λ (w : WholeStep). ((‵ (flft κ q) ⊛ ‵ ftrue) ⊛ ‵ (X.the-row .own w (u‴ ∷ []))) ⊛ raw (ensured 𝓤 H A whl.ended (whl.clauses 𝓤 H A mem run) (κ, tt) (r, tt) tt w)))) (id⊢ 𝓤 _) $ await ! tt $ pick ! (λ w.
         split ! $ move ! (1 ∷ []) $ use1 W (raw (fact 𝓤 (HeldWholeAllows r w))) (whole-said r w) $ heard ! (HeldWholeAllows r w) (λ f‴. split ! $ move ! (1 ∷ []) $
         peeks ! X.the-row (Is X.the-row) (shows 𝓤 H A X.the-row) w (u‴ ∷ []) (λ is‴.
@@ -274,10 +260,10 @@ module _ {M : Type 1} (𝓤 : URA M) (H : Heap 𝓤) (A : Atoms 𝓤) (W : Given
         ot u o is = LL.lawful (O.the-type αᵉ) (O′.the-laws αᵉ) 𝓤 H A W .typed o _ (subst (λ (vs : List Val). Is (O.the-row α) o vs) (LL.tells (O.the-type α) (O′.the-laws α) o _ is) is) .0
 
         held-typed : (u : Val) (o : Opened) → Is (O.the-row α) o (u ∷ []) → Holds (hasTy (T′.mir erased) (mT o)) × WT (mT o)
-        held-typed u o is = (and-l (hasTy S′.mir (mOS o) && true) (hasTy OA′.mir (mOA o) && true) (ot u o is .0), ot u o is .1 .0)
+        held-typed u o is = (and-l (hasTy S′.mir (LL.val S.the-type S′.the-laws (o .reader .state)) && true) (hasTy OA′.mir (mOA o) && true) (ot u o is .0), ot u o is .1 .0)
 
         answer-typed : (u : Val) (o : Opened) → Is (O.the-row α) o (u ∷ []) → Holds (hasTy OA′.mir (mOA o)) × WT (mOA o)
-        answer-typed u o is = (and-l (hasTy OA′.mir (mOA o)) true (and-r (hasTy S′.mir (mOS o) && true) (hasTy OA′.mir (mOA o) && true) (ot u o is .0)), ot u o is .1 .1 .0)
+        answer-typed u o is = (and-l (hasTy OA′.mir (mOA o)) true (and-r (hasTy S′.mir (LL.val S.the-type S′.the-laws (o .reader .state)) && true) (hasTy OA′.mir (mOA o) && true) (ot u o is .0)), ot u o is .1 .1 .0)
 
         et : (u : Val) (e : EntryStep) → Is E.the-row e (u ∷ []) → Holds (hasTy E′.mir (mE e)) × WT (mE e)
         et u e is = LL.lawful E.the-type E′.the-laws 𝓤 H A W .typed e _ (subst (λ (vs : List Val). Is E.the-row e vs) (LL.tells E.the-type E′.the-laws e _ is) is) .0
@@ -293,17 +279,13 @@ module _ {M : Type 1} (𝓤 : URA M) (H : Heap 𝓤) (A : Atoms 𝓤) (W : Given
           (answer-typed u o is .1, (et u′ e is′ .1 .1 .0, (vt u″ w is″ .1, tt))),
         )
 
-module _ {M : Type 1} (𝓤 : URA M) (H : Heap 𝓤) (A : Atoms 𝓤) (W : Given 𝓤 H A) (mem : Memory → SProp 𝓤) (run : Routine → Fun 𝓤) where
-  first-whole-walks : (C : Calls 𝓤 H) (Λ : Loops 𝓤 H) → FmC 𝓤 H (W .laws) C → Triple 𝓤 (C #held-reader·open) (Opens 𝓤 H A mem run) → Triple 𝓤 (C #held-reader·entry) (Enters 𝓤 H A mem run) → Triple 𝓤 (C #held-reader·with-state) (Moves 𝓤 H A mem run) → Triple 𝓤 (C #held-reader·whole) (Reads 𝓤 H A mem run)
-      → Walks 𝓤 H A fn.ended stayed (WpFn 𝓤 H C Λ code.function) (fn.clauses 𝓤 H A mem run)
-  first-whole-walks C Λ fm opens enters moves reads = walked 𝓤 H A fn.ended stayed (fn.clauses 𝓤 H A mem run) (WpFn 𝓤 H C Λ code.function) (λ κs. (slice-vals, (uint-vals w64, tt))) (λ κs. (shr-slice-tells (named 0) (κs .0) u8, (uint-tells w64, tt)))
-      (λ κs qs bounds a g are. via 𝓤 _ (fst∗ 𝓤 _ (emp 𝓤)) (walk 𝓤 H A W mem run (κs .0) (qs .0) (a .0) (a .1 .0) (are .1 .0 .1) C Λ fm opens enters moves reads (are .0)))
-
 first-whole-meets : {M : Type 1} (𝓤 : URA M) (H : Heap 𝓤) (A : Atoms 𝓤) (W : Given 𝓤 H A) (mem : Memory → SProp 𝓤) (run : Routine → Fun 𝓤) (𝓣 : Tables 𝓤 H)
-    → Triple 𝓤 (𝓣 .C #held-reader·open) (Opens 𝓤 H A mem run) → Triple 𝓤 (𝓣 .C #held-reader·entry) (Enters 𝓤 H A mem run) → Triple 𝓤 (𝓣 .C #held-reader·with-state) (Moves 𝓤 H A mem run) → Triple 𝓤 (𝓣 .C #held-reader·whole) (Reads 𝓤 H A mem run)
+    → Triple 𝓤 (𝓣 .C opn-def.name) (Opens 𝓤 H A mem run) → Triple 𝓤 (𝓣 .C ent-def.name) (Enters 𝓤 H A mem run) → Triple 𝓤 (𝓣 .C wst-def.name) (Moves 𝓤 H A mem run) → Triple 𝓤 (𝓣 .C whl-def.name) (Reads 𝓤 H A mem run)
     → Meets 𝓤 H A fn.signature (WpFn 𝓤 H (𝓣 .C) (𝓣 .Λ) code.function) (fn.spec 𝓤 H A mem run)
-first-whole-meets 𝓤 H A W mem run 𝓣 opens enters moves reads = walk-meets 𝓤 H A fn.ended stayed W (goes-none-slice 𝓤 H A W 1 (0 ∷ []) tt (plain (λ _. u8)) yes, (goes-none 𝓤 H A W 1 (λ _. u64) yes (λ κs x f. refl), tt)) (fn.clauses 𝓤 H A mem run) (WpFn 𝓤 H (𝓣 .C) (𝓣 .Λ) code.function) (WpFn-mono 𝓤 H (W .laws) 𝓣 code.function)
-    (first-whole-walks 𝓤 H A W mem run (𝓣 .C) (𝓣 .Λ) (fmOf 𝓤 H (W .laws) 𝓣) opens enters moves reads)
+first-whole-meets 𝓤 H A W mem run 𝓣 opens enters moves reads =
+    walk-meets 𝓤 H A fn.ended stayed W (goes-none-slice 𝓤 H A W 1 (0 ∷ []) tt (plain (λ _. u8)) yes, (goes-none 𝓤 H A W 1 (λ _. u64) yes (λ κs x f. refl), tt)) (fn.clauses 𝓤 H A mem run) (WpFn 𝓤 H (𝓣 .C) (𝓣 .Λ) code.function) (WpFn-mono 𝓤 H (W .laws) 𝓣 code.function)
+    (walked 𝓤 H A fn.ended stayed (fn.clauses 𝓤 H A mem run) (WpFn 𝓤 H (𝓣 .C) (𝓣 .Λ) code.function) (λ κs. (slice-vals, (uint-vals w64, tt))) (λ κs. (shr-slice-tells (named 0) (κs .0) u8, (uint-tells w64, tt)))
+    (λ κs qs bounds a g are. via 𝓤 _ (fst∗ 𝓤 _ (emp 𝓤)) (walk 𝓤 H A W mem run (κs .0) (qs .0) (a .0) (a .1 .0) (are .1 .0 .1) (𝓣 .C) (𝓣 .Λ) (fmOf 𝓤 H (W .laws) 𝓣) opens enters moves reads (are .0))))
 
 pub first-whole-spec : {M : Type 1} → stated.statement M
 unfolding code.routine tablesOf
@@ -311,7 +293,7 @@ first-whole-spec 𝓤 H 𝓜 𝓖 𝓡 =
     entered 𝓤 H (tripleOf 𝓤 H (𝓖 .A) fn.signature (fn.spec 𝓤 H (𝓖 .A) (𝓜 .mem) (𝓡 .run)))
     (tables 𝓤 H 𝓜 𝓡 code.env .C) (tables 𝓤 H 𝓜 𝓡 code.env .Λ) #held-reader·first-whole code.function (code.unfolded 𝓤 H 𝓜 𝓡)
     (first-whole-meets 𝓤 H (𝓖 .A) (givenOf 𝓤 H 𝓜 𝓖) (𝓜 .mem) (𝓡 .run) (tablesOf 𝓤 H 𝓜 (tables 𝓤 H 𝓜 𝓡 code.env))
-    (cited 𝓤 H (Opens 𝓤 H (𝓖 .A) (𝓜 .mem) (𝓡 .run)) 𝓜 𝓡 code.env #held-reader·open opn-def.routine code.calls-held-reader·Reader·open (opn-thm.met 𝓤 H 𝓜 𝓖 𝓡))
-    (cited 𝓤 H (Enters 𝓤 H (𝓖 .A) (𝓜 .mem) (𝓡 .run)) 𝓜 𝓡 code.env #held-reader·entry ent-def.routine code.calls-held-reader·Reader·entry (ent-thm.met 𝓤 H 𝓜 𝓖 𝓡))
-    (cited 𝓤 H (Moves 𝓤 H (𝓖 .A) (𝓜 .mem) (𝓡 .run)) 𝓜 𝓡 code.env #held-reader·with-state wst-def.routine code.calls-held-reader·Reader·with-state (wst-thm.met 𝓤 H 𝓜 𝓖 𝓡))
-    (cited 𝓤 H (Reads 𝓤 H (𝓖 .A) (𝓜 .mem) (𝓡 .run)) 𝓜 𝓡 code.env #held-reader·whole whl-def.routine code.calls-held-reader·Reader·whole (whl-thm.met 𝓤 H 𝓜 𝓖 𝓡)))
+    (cited 𝓤 H (Opens 𝓤 H (𝓖 .A) (𝓜 .mem) (𝓡 .run)) 𝓜 𝓡 code.env opn-def.name opn-def.routine code.calls-held-reader·Reader·open (opn-thm.met 𝓤 H 𝓜 𝓖 𝓡))
+    (cited 𝓤 H (Enters 𝓤 H (𝓖 .A) (𝓜 .mem) (𝓡 .run)) 𝓜 𝓡 code.env ent-def.name ent-def.routine code.calls-held-reader·Reader·entry (ent-thm.met 𝓤 H 𝓜 𝓖 𝓡))
+    (cited 𝓤 H (Moves 𝓤 H (𝓖 .A) (𝓜 .mem) (𝓡 .run)) 𝓜 𝓡 code.env wst-def.name wst-def.routine code.calls-held-reader·Reader·with-state (wst-thm.met 𝓤 H 𝓜 𝓖 𝓡))
+    (cited 𝓤 H (Reads 𝓤 H (𝓖 .A) (𝓜 .mem) (𝓡 .run)) 𝓜 𝓡 code.env whl-def.name whl-def.routine code.calls-held-reader·Reader·whole (whl-thm.met 𝓤 H 𝓜 𝓖 𝓡)))

@@ -1,6 +1,5 @@
 -- `Reader::new` meets its contract: a walk of its MIR, by hand. A `Reader` is made of the slice and the state passed, in the result's local.
 -- Both are Copy, so what each owns is had twice: once for the exit, and once inside the result.
--- Assumes nothing.
 use mathlib.Core.Path.{refl}
 use Prim.Native.Nat.{ℕ}
 use mathlib.Core.List.{List, [], _∷_}

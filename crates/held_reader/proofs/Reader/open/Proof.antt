@@ -45,7 +45,8 @@ use denote.Triple.Walked.{says, Stays, stay-none, stay-none-slice, walkOf, goes-
 use denote.Exit.{yes}
 use Rattle.segment_reader.specs.Promises.{NewAllows}
 use Rattle.segment_reader.specs.declared.Opening.{Opening}
-use Rattle.held_reader.specs.Held.{held, heldOpening}
+use Rattle.held_reader.specs.Held.{held}
+use Rattle.held_reader.specs.declared.Opened.{Opened}
 use Rattle.segment_reader.proofs.Opening as E
 use Rattle.segment_reader.proofs.Opening.Laws as E′
 use Rattle.segment_reader.proofs.OpenAnswer as Ans
@@ -64,6 +65,10 @@ use Rattle.held_reader.proofs.Reader.open.Key.{name as #held-reader·op
 use Rattle.held_reader.proofs.Reader.open as fn
 use Rattle.held_reader.proofs.Reader.open.Statement as stated
 use Rattle.held_reader.proofs.Reader.open.Code as code
+
+-- the opening by value, put around the image
+abbrev heldOpening : RefT (List ℕ) → Opening → Opened
+heldOpening image s = record { reader = held image (s .reader); answer = s .answer }
 
 abbrev stayed : Stays (fn.ended .signature .params) (fn.ended .kept)
 stayed = (stay-none-slice (0 ∷ []) tt (plain (λ _. u8)) yes, (stay-none (λ _. u64) yes, tt))

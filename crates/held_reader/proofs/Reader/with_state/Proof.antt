@@ -1,6 +1,5 @@
 -- `Reader::with_state` meets its contract: a walk of its MIR, by hand. A struct is made anew of the slice that the one passed holds, and another state.
 -- The struct is Copy: what it owns is had twice, one copy is kept whole for the exit, and the other, with what the state owns in the place of the old one's, is what the result owns.
--- Assumes nothing.
 use mathlib.Core.Path.{refl}
 use mathlib.Core.List.{[], _∷_}
 use mathlib.Core.Bool.{true}
@@ -23,7 +22,6 @@ use types.Part.{whole, sub, look-in, agg}
 use types.Run.{look, init, forget, stop, fld, from, load, of-opd, and-then, no-more, assigns, returns, enter, alloc1, alloc0, params1, pass1, pass0, free1, free0}
 use sound.WpLaws.{WpFn-mono}
 use denote.RattleType.{RattleType, owns}
-use denote.Laws.{Is}
 use denote.Signature.{namedLft}
 use denote.Struct.Laws as LL
 use denote.Struct.Rest.{own-put}

@@ -1,68 +1,49 @@
 -- Not made, or the call and what it leaves.
 use borrow.Author.Tests.{not-true, not-false}
-use mathlib.Core.List.{[]}
-use Rattle.okaywal_segment.proofs.ReaderWays.{loads, not-called, answered, unanswered, checked, too-short, opens, reaches}
+use Rattle.okaywal_segment.proofs.ReaderWays.{loads, not-called, answered}
 use mathlib.Core.Path.{refl}
-use Rattle.segment_reader.specs.Calls.{answerOf, readBy, nextEntry, nextChunk, crcCheck, skipRest, wholeEntry, dataRead}
+use Rattle.segment_reader.specs.Calls.{readBy, nextEntry}
 use borrow.Author.Needs.{needs}
 use Rattle.okaywal_segment.proofs.reader.okw_reader_entry.Statement.{statement}
 use Rattle.okaywal_segment.proofs.reader.okw_reader_entry.Tie as tie
-use Rattle.okaywal_segment.proofs.reader.okw_reader_entry.Reads as reads
-use Rattle.okaywal_segment.proofs.reader.okw_reader_entry.Lts as lts
-use Rattle.okaywal_segment.proofs.reader_steps.leave.Reads as leave-reads
-use Rattle.okaywal_segment.proofs.reader_steps.ready_to_answer.Reads as ready-to-answer-reads
-use Rattle.okaywal_segment.proofs.reader_words.load.Reads as load-reads
-use Rattle.okaywal_segment.proofs.reader_words.of_entry.Reads as of-entry-reads
-use Rattle.segment_reader.proofs.SegmentReader.read_entry.Reads as read-entry-reads
 
--- src/reader.rt:36:9
 ready-to-answer-requires : tie.Need-ready-to-answer-requires
 ready-to-answer-requires c κs = search needs
 
--- src/reader.rt:37:9
 same-length : tie.Need-same-length
 same-length c = search needs
 
--- src/reader.rt:37:9
 same-length-2 : tie.Need-same-length-2
 same-length-2 c = search needs
 
--- src/reader.rt:37:9
 returns : tie.Need-returns
 returns c =
     let a = c .before .before .before .before .before .before .before .before .before .args in
     not-called nextEntry (a .state .now) (a .image .now) (a .answer .now) _ _ (c .before .before .before .ready-to-answer .ensures) (not-true (c .before .before .before .ready-to-answer .result) (c .if1 .taken))
 
--- src/reader.rt:39:9
 load-requires : tie.Need-load-requires
 load-requires c κs =
     let a = c .before .before .before .before .before .before .before .before .before .before .args in
     loads 4 (a .state .now) (a .answer .now) _ _ (c .before .before .before .before .ready-to-answer .ensures) (not-false (c .before .before .before .before .ready-to-answer .result) (c .before .if1 .left)) .0
 
--- src/reader.rt:40:9
 read-entry-requires : tie.Need-read-entry-requires
 read-entry-requires c κs = search needs
 
--- src/reader.rt:43:32
 of-entry-requires : tie.Need-of-entry-requires
 of-entry-requires c κs = search needs
 
--- src/reader.rt:43:5
 leave-requires : tie.Need-leave-requires
 leave-requires c κs =
     let a = c .before .before .before .before .before .before .before .before .before .before .before .before .before .before .before .before .args in
     let l = loads 4 (a .state .now) (a .answer .now) _ _ (c .before .before .before .before .before .before .before .before .before .before .ready-to-answer .ensures) (not-false (c .before .before .before .before .before .before .before .before .before .before .ready-to-answer .result) (c .before .before .before .before .before .before .before .if1 .left)) in
     (l .0 .all-words, l .1)
 
--- src/reader.rt:32:1
 same-length-3 : tie.Need-same-length-3
 same-length-3 c = search needs
 
--- src/reader.rt:32:1
 same-length-4 : tie.Need-same-length-4
 same-length-4 c = search needs
 
--- src/reader.rt:32:1
 returns-2 : tie.Need-returns-2
 unfolding readBy
 returns-2 c =

@@ -1,48 +1,34 @@
 -- Too short, or the opening.
 use borrow.Author.Tests.{not-true, not-false}
-use mathlib.Core.List.{[]}
-use Rattle.okaywal_segment.proofs.ReaderWays.{loads, not-called, answered, unanswered, checked, too-short, opens, reaches}
+use Rattle.okaywal_segment.proofs.ReaderWays.{too-short, opens, reaches}
 use mathlib.Core.Path.{sym, _∙_}
 use lib.ListN.{length}
 use borrow.Author.Needs.{needs}
 use Rattle.okaywal_segment.proofs.reader.okw_reader_open.Statement.{statement}
 use Rattle.okaywal_segment.proofs.reader.okw_reader_open.Tie as tie
-use Rattle.okaywal_segment.proofs.reader.okw_reader_open.Reads as reads
-use Rattle.okaywal_segment.proofs.reader.okw_reader_open.Lts as lts
-use Rattle.okaywal_segment.proofs.reader_steps.enough.Reads as enough-reads
-use Rattle.okaywal_segment.proofs.reader_words.number_of_opening.Reads as number-of-opening-reads
-use Rattle.okaywal_segment.proofs.reader_words.save.Reads as save-reads
-use Rattle.segment_reader.proofs.SegmentReader.new.Reads as new-reads
 
--- src/reader.rt:21:9
 enough-requires : tie.Need-enough-requires
 enough-requires c κs = search needs
 
--- src/reader.rt:22:9
 returns : tie.Need-returns
 returns c =
     let a = c .before .before .before .before .args in
     too-short (a .state .now) (a .image .now) (a .file-id) (sym (c .before .enough .ensures) ∙ not-true (c .before .enough .result) (c .if1 .taken))
 
--- src/reader.rt:24:9
 new-requires : tie.Need-new-requires
 new-requires c κs = search needs
 
--- src/reader.rt:27:5
 save-requires : tie.Need-save-requires
 save-requires c κs =
     let a = c .before .before .before .before .before .before .before .args in
     reaches 0 (length (a .state .now)) 0 _ (c .before .before .before .before .enough .ensures) (not-false (c .before .before .before .before .enough .result) (c .before .before .before .if1 .left)) .0
 
--- src/reader.rt:28:5
 number-of-opening-requires : tie.Need-number-of-opening-requires
 number-of-opening-requires c κs = search needs
 
--- src/reader.rt:17:1
 same-length : tie.Need-same-length
 same-length c = search needs
 
--- src/reader.rt:17:1
 returns-2 : tie.Need-returns-2
 returns-2 c =
     let a = c .before .before .before .before .before .before .before .before .before .before .before .args in

@@ -1,30 +1,21 @@
 -- The answer, then the state.
-use mathlib.Core.Path.{sym, _∙_}
+use mathlib.Core.Path.{_∙_}
 use borrow.Author.Needs.{needs}
 use Rattle.okaywal_segment.proofs.reader_steps.leave.Statement.{statement}
 use Rattle.okaywal_segment.proofs.reader_steps.leave.Tie as tie
-use Rattle.okaywal_segment.proofs.reader_steps.leave.Reads as reads
-use Rattle.okaywal_segment.proofs.reader_steps.leave.Lts as lts
-use Rattle.okaywal_segment.proofs.reader_steps.restate.Reads as restate-reads
-use Rattle.okaywal_segment.proofs.steps.answer_with.Reads as answer-with-reads
 
--- src/reader_steps.rt:72:9
 answer-with-requires : tie.Need-answer-with-requires
 answer-with-requires c κs = search needs
 
--- src/reader_steps.rt:73:5
 restate-requires : tie.Need-restate-requires
 restate-requires c κs = search needs
 
--- src/reader_steps.rt:68:1
 same-length : tie.Need-same-length
 same-length c = search needs
 
--- src/reader_steps.rt:68:1
 same-length-2 : tie.Need-same-length-2
 same-length-2 c = search needs
 
--- src/reader_steps.rt:68:1
 returns : tie.Need-returns
 returns c =
     let n = c .before .before .before .before .before .before .answer-with .ensures in

@@ -1,29 +1,21 @@
 -- Too short, or as the words fit.
-use Rattle.okaywal_segment.proofs.Starting.{too-short, out-of-range, in-range, no-answer}
+use Rattle.okaywal_segment.proofs.Starting.{too-short, no-answer}
 use Rattle.okaywal_segment.proofs.ReaderWays.{reaches}
 use mathlib.Core.Path.{sym, _∙_}
 use lib.ListN.{length}
 use borrow.Author.Needs.{needs}
 use Rattle.okaywal_segment.proofs.reader_steps.ready.Statement.{statement}
 use Rattle.okaywal_segment.proofs.reader_steps.ready.Tie as tie
-use Rattle.okaywal_segment.proofs.reader_steps.ready.Reads as reads
-use Rattle.okaywal_segment.proofs.reader_steps.ready.Lts as lts
-use Rattle.okaywal_segment.proofs.reader_steps.enough.Reads as enough-reads
-use Rattle.okaywal_segment.proofs.reader_words.fits.Reads as fits-reads
 
--- src/reader_steps.rt:28:8
 enough-requires : tie.Need-enough-requires
 enough-requires c κs = search needs
 
--- src/reader_steps.rt:29:9
 fits-requires : tie.Need-fits-requires
 fits-requires c κs = let a = c .before .before .before .args in reaches 0 (length (a .state .now)) 0 _ (c .before .enough .ensures) (c .if1 .taken) .0
 
--- src/reader_steps.rt:29:9
 returns : tie.Need-returns
 returns c = no-answer _ (sym (c .before .before .enough .ensures) ∙ c .before .if1 .taken) (c .fits2 .ensures)
 
--- src/reader_steps.rt:25:1
 returns-2 : tie.Need-returns-2
 returns-2 c = too-short (sym (c .before .enough .ensures) ∙ c .if1 .left)
 

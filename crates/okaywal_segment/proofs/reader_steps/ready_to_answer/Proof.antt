@@ -1,5 +1,5 @@
 -- Too short, in range, or four zeros.
-use Rattle.okaywal_segment.proofs.Starting.{too-short, out-of-range, in-range, no-answer}
+use Rattle.okaywal_segment.proofs.Starting.{too-short, out-of-range, in-range}
 use Rattle.okaywal_segment.proofs.ReaderWays.{reaches}
 use mathlib.Core.Path.{sym, _∙_}
 use lib.ListN.{length}
@@ -7,41 +7,28 @@ use borrow.Author.Tests.{not-true, not-false}
 use borrow.Author.Needs.{needs}
 use Rattle.okaywal_segment.proofs.reader_steps.ready_to_answer.Statement.{statement}
 use Rattle.okaywal_segment.proofs.reader_steps.ready_to_answer.Tie as tie
-use Rattle.okaywal_segment.proofs.reader_steps.ready_to_answer.Reads as reads
-use Rattle.okaywal_segment.proofs.reader_steps.ready_to_answer.Lts as lts
-use Rattle.okaywal_segment.proofs.reader_steps.enough.Reads as enough-reads
-use Rattle.okaywal_segment.proofs.reader_words.fits.Reads as fits-reads
-use Rattle.okaywal_segment.proofs.words.put.Reads as put-reads
 
--- src/reader_steps.rt:38:9
 enough-requires : tie.Need-enough-requires
 enough-requires c κs = search needs
 
--- src/reader_steps.rt:39:9
 returns : tie.Need-returns
 returns c = too-short (sym (c .before .enough .ensures) ∙ not-true (c .before .enough .result) (c .if1 .taken))
 
--- src/reader_steps.rt:41:8
 fits-requires : tie.Need-fits-requires
 fits-requires c κs = let a = c .before .before .before .before .args in reaches 4 (length (a .state .now)) (length (a .answer .now)) _ (c .before .enough .ensures) (not-false (c .before .enough .result) (c .if1 .left)) .0
 
--- src/reader_steps.rt:42:9
 returns-2 : tie.Need-returns-2
 returns-2 c = in-range (sym (c .before .before .before .enough .ensures) ∙ not-false (c .before .before .before .enough .result) (c .before .before .if1 .left)) (sym (c .before .fits2 .ensures) ∙ c .if2 .taken)
 
--- src/reader_steps.rt:45:17
 slice-aggregate-put : tie.Need-slice-aggregate-put
 slice-aggregate-put c = search needs
 
--- src/reader_steps.rt:45:5
 put-requires : tie.Need-put-requires
 put-requires c κs = let a = c .before .before .before .before .before .before .before .before .args in reaches 4 (length (a .state .now)) (length (a .answer .now)) _ (c .before .before .before .before .before .enough .ensures) (not-false (c .before .before .before .before .before .enough .result) (c .before .before .before .before .if1 .left)) .1
 
--- src/reader_steps.rt:35:1
 same-length : tie.Need-same-length
 same-length c = search needs
 
--- src/reader_steps.rt:35:1
 returns-3 : tie.Need-returns-3
 returns-3 c = out-of-range (sym (c .before .before .before .before .before .before .before .before .enough .ensures) ∙ not-false (c .before .before .before .before .before .before .before .before .enough .result) (c .before .before .before .before .before .before .before .if1 .left)) (sym (c .before .before .before .before .before .before .fits2 .ensures) ∙ c .before .before .before .before .before .if2 .left) (c .before .before .put .ensures)
 

@@ -4,28 +4,19 @@ use mathlib.Core.Path.{refl, sym, _∙_}
 use borrow.Author.Needs.{needs}
 use Rattle.okaywal_segment.proofs.reader_steps.restate.Statement.{statement}
 use Rattle.okaywal_segment.proofs.reader_steps.restate.Tie as tie
-use Rattle.okaywal_segment.proofs.reader_steps.restate.Reads as reads
-use Rattle.okaywal_segment.proofs.reader_steps.restate.Lts as lts
-use Rattle.okaywal_segment.proofs.reader_steps.passes.Reads as passes-reads
-use Rattle.okaywal_segment.proofs.reader_words.save.Reads as save-reads
 
--- src/reader_steps.rt:61:8
 passes-requires : tie.Need-passes-requires
 passes-requires c κs = search needs
 
--- src/reader_steps.rt:62:9
 save-requires : tie.Need-save-requires
 save-requires c κs = search needs
 
--- src/reader_steps.rt:57:1
 same-length : tie.Need-same-length
 same-length c = search needs
 
--- src/reader_steps.rt:57:1
 returns : tie.Need-returns
 returns c = let a = c .before .before .before .before .before .before .before .args in record { number-is = refl; state-is = goes _ _ _ _ (sym (c .before .before .before .before .before .passes .ensures) ∙ c .before .before .before .before .if1 .taken) (c .before .before .save .ensures) }
 
--- src/reader_steps.rt:57:1
 returns-2 : tie.Need-returns-2
 returns-2 c = let a = c .before .before .before .args in record { number-is = refl; state-is = stays _ _ _ (sym (c .before .passes .ensures) ∙ c .if1 .left) }
 

@@ -1,58 +1,43 @@
 -- Each word in its place.
-use Rattle.okaywal_segment.specs.ReaderWords.{readerFits, readerFrom, readerWords}
-use Rattle.okaywal_segment.proofs.ReaderRanges.{in-entry, in-chunk, ended, in-part, no-part, part-numbers, moment-fits, five, any-cut}
+use Rattle.okaywal_segment.specs.ReaderWords.{readerFrom}
+use Rattle.okaywal_segment.proofs.ReaderRanges.{moment-fits}
 use borrow.Author.Needs.{needs}
 use Rattle.okaywal_segment.proofs.reader_words.load.Statement.{statement}
 use Rattle.okaywal_segment.proofs.reader_words.load.Tie as tie
-use Rattle.okaywal_segment.proofs.reader_words.load.Reads as reads
-use Rattle.okaywal_segment.proofs.reader_words.load.Lts as lts
-use Rattle.okaywal_segment.proofs.reader_words.moment_from.Reads as moment-from-reads
 
--- src/reader_words.rt:74:18
 shared-slice-read-t3 : tie.Need-shared-slice-read-t3
 shared-slice-read-t3 c = search needs
 
--- src/reader_words.rt:75:15
 shared-slice-read-t5 : tie.Need-shared-slice-read-t5
 shared-slice-read-t5 c = search needs
 
--- src/reader_words.rt:76:30
 shared-slice-read-t7 : tie.Need-shared-slice-read-t7
 shared-slice-read-t7 c = search needs
 
--- src/reader_words.rt:77:16
 shared-slice-read-t9 : tie.Need-shared-slice-read-t9
 shared-slice-read-t9 c = search needs
 
--- src/reader_words.rt:78:22
 shared-slice-read-t11 : tie.Need-shared-slice-read-t11
 shared-slice-read-t11 c = search needs
 
--- src/reader_words.rt:79:29
 shared-slice-read-moment-from : tie.Need-shared-slice-read-moment-from
 shared-slice-read-moment-from c = search needs
 
--- src/reader_words.rt:79:39
 shared-slice-read-moment-from-2 : tie.Need-shared-slice-read-moment-from-2
 shared-slice-read-moment-from-2 c = search needs
 
--- src/reader_words.rt:79:49
 shared-slice-read-moment-from-3 : tie.Need-shared-slice-read-moment-from-3
 shared-slice-read-moment-from-3 c = search needs
 
--- src/reader_words.rt:79:59
 shared-slice-read-moment-from-4 : tie.Need-shared-slice-read-moment-from-4
 shared-slice-read-moment-from-4 c = search needs
 
--- src/reader_words.rt:79:69
 shared-slice-read-moment-from-5 : tie.Need-shared-slice-read-moment-from-5
 shared-slice-read-moment-from-5 c = search needs
 
--- src/reader_words.rt:79:17
 moment-from-requires : tie.Need-moment-from-requires
 moment-from-requires c κs = moment-fits (c .before .before .before .before .before .before .before .before .before .before .before .args .state .now) (c .before .before .before .before .before .before .before .before .before .before .before .pre .in-range)
 
--- src/reader_words.rt:69:1
 returns : tie.Need-returns
 unfolding readerFrom
 returns c = rw (c .moment-from .ensures)

@@ -1,33 +1,25 @@
 -- By the moment; a chunk's numbers are in their range.
-use Rattle.okaywal_segment.proofs.ReaderRanges.{in-entry, in-chunk, ended, in-part, no-part, part-numbers, moment-fits, five, any-cut}
+use Rattle.okaywal_segment.proofs.ReaderRanges.{in-entry, in-chunk, ended, part-numbers}
 use native.Mathlib.Omega.{arith}
 use borrow.Author.Needs.{needs}
 use Rattle.okaywal_segment.proofs.reader_words.moment_from.Statement.{statement}
 use Rattle.okaywal_segment.proofs.reader_words.moment_from.Tie as tie
-use Rattle.okaywal_segment.proofs.reader_words.moment_from.Reads as reads
-use Rattle.okaywal_segment.proofs.reader_words.moment_from.Lts as lts
 
--- src/reader_words.rt:52:9
 returns : tie.Need-returns
 returns c = search needs
 
--- src/reader_words.rt:55:9
 returns-2 : tie.Need-returns-2
 returns-2 c = let a = c .before .before .args in in-entry (a .kind) (a .id) (a .mark) (a .n) (a .owed) (c .if2 .taken)
 
--- src/reader_words.rt:61:16
 cast-t7 : tie.Need-cast-t7
 cast-t7 c = let a = c .before .before .before .args in let h = part-numbers (a .kind) (a .n) (a .owed) (c .if3 .taken) (c .before .before .before .pre) in omega arith
 
--- src/reader_words.rt:62:19
 cast-t8 : tie.Need-cast-t8
 cast-t8 c = let a = c .before .before .before .args in let h = part-numbers (a .kind) (a .n) (a .owed) (c .if3 .taken) (c .before .before .before .pre) in omega arith
 
--- src/reader_words.rt:58:9
 returns-3 : tie.Need-returns-3
 returns-3 c = let a = c .before .before .before .args in in-chunk (a .kind) (a .id) (a .mark) (a .n) (a .owed) (c .if3 .taken)
 
--- src/reader_words.rt:47:1
 returns-4 : tie.Need-returns-4
 returns-4 c = let a = c .before .before .before .args in ended (a .kind) (a .id) (a .mark) (a .n) (a .owed) (c .before .before .if1 .left) (c .before .if2 .left) (c .if3 .left)
 

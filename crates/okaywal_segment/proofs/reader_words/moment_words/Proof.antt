@@ -2,46 +2,34 @@
 use borrow.Author.Needs.{needs}
 use Rattle.okaywal_segment.proofs.reader_words.moment_words.Statement.{statement}
 use Rattle.okaywal_segment.proofs.reader_words.moment_words.Tie as tie
-use Rattle.okaywal_segment.proofs.reader_words.moment_words.Reads as reads
-use Rattle.okaywal_segment.proofs.reader_words.moment_words.Lts as lts
 
--- src/reader_words.rt:89:28
 enum-told : tie.Need-enum-told
 enum-told c = search needs
 
--- src/reader_words.rt:90:27
 enum-known-m : tie.Need-enum-known-m
 enum-known-m c = search needs
 
--- src/reader_words.rt:91:27
 enum-known-m-2 : tie.Need-enum-known-m-2
 enum-known-m-2 c = search needs
 
--- src/reader_words.rt:91:64
 cast-t8 : tie.Need-cast-t8
 cast-t8 c = search needs
 
--- src/reader_words.rt:91:74
 cast-t9 : tie.Need-cast-t9
 cast-t9 c = search needs
 
--- src/reader_words.rt:92:26
 enum-told-2 : tie.Need-enum-told-2
 enum-told-2 c = search needs
 
--- src/reader_words.rt:85:1
 returns : tie.Need-returns
 returns c = search needs
 
--- src/reader_words.rt:85:1
 returns-2 : tie.Need-returns-2
 returns-2 c = rw (c .before .m .given .1)
 
--- src/reader_words.rt:85:1
 returns-3 : tie.Need-returns-3
 returns-3 c = rw (c .before .m2 .given .1)
 
--- src/reader_words.rt:85:1
 returns-4 : tie.Need-returns-4
 returns-4 c = search needs
 

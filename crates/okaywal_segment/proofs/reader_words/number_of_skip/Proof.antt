@@ -1,29 +1,22 @@
 -- By the answer.
-use Rattle.segment_reader.specs.Calls.{answerOf, readBy, nextEntry, nextChunk, crcCheck, skipRest, wholeEntry, dataRead}
+use Rattle.segment_reader.specs.Calls.{answerOf}
 use borrow.Author.Needs.{needs}
 use Rattle.okaywal_segment.proofs.reader_words.number_of_skip.Statement.{statement}
 use Rattle.okaywal_segment.proofs.reader_words.number_of_skip.Tie as tie
-use Rattle.okaywal_segment.proofs.reader_words.number_of_skip.Reads as reads
-use Rattle.okaywal_segment.proofs.reader_words.number_of_skip.Lts as lts
 
--- src/reader_words.rt:141:32
 enum-told : tie.Need-enum-told
 enum-told c = search needs
 
--- src/reader_words.rt:142:29
 enum-known-answer : tie.Need-enum-known-answer
 enum-known-answer c = search needs
 
--- src/reader_words.rt:142:36
 cast-result : tie.Need-cast-result
 cast-result c = search needs
 
--- src/reader_words.rt:137:1
 returns : tie.Need-returns
 unfolding answerOf
 returns c = rw (c .enum-told .given .1)
 
--- src/reader_words.rt:137:1
 returns-2 : tie.Need-returns-2
 unfolding answerOf
 returns-2 c = rw (c .before .answer .given .1)

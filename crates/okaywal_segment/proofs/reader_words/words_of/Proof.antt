@@ -1,38 +1,28 @@
 -- Each word in its place.
-use Rattle.okaywal_segment.specs.ReaderWords.{readerFits, readerFrom, readerWords}
-use Rattle.okaywal_segment.proofs.ReaderRanges.{in-entry, in-chunk, ended, in-part, no-part, part-numbers, moment-fits, five, any-cut}
+use Rattle.okaywal_segment.specs.ReaderWords.{readerWords}
+use Rattle.okaywal_segment.proofs.ReaderRanges.{five}
 use borrow.Author.Needs.{needs}
 use Rattle.okaywal_segment.proofs.reader_words.words_of.Statement.{statement}
 use Rattle.okaywal_segment.proofs.reader_words.words_of.Tie as tie
-use Rattle.okaywal_segment.proofs.reader_words.words_of.Reads as reads
-use Rattle.okaywal_segment.proofs.reader_words.words_of.Lts as lts
-use Rattle.okaywal_segment.proofs.reader_words.moment_words.Reads as moment-words-reads
 
--- src/reader_words.rt:101:13
 moment-words-requires : tie.Need-moment-words-requires
 moment-words-requires c κs = search needs
 
--- src/reader_words.rt:108:9
 array-read-t7 : tie.Need-array-read-t7
 array-read-t7 c = search needs
 
--- src/reader_words.rt:109:9
 array-read-t10 : tie.Need-array-read-t10
 array-read-t10 c = search needs
 
--- src/reader_words.rt:110:9
 array-read-t13 : tie.Need-array-read-t13
 array-read-t13 c = search needs
 
--- src/reader_words.rt:111:9
 array-read-t16 : tie.Need-array-read-t16
 array-read-t16 c = search needs
 
--- src/reader_words.rt:112:9
 array-read-t19 : tie.Need-array-read-t19
 array-read-t19 c = search needs
 
--- src/reader_words.rt:97:1
 returns : tie.Need-returns
 unfolding readerWords
 returns c = let a = c .before .args in rw (c .moment-words .ensures, five (a .r .moment))
