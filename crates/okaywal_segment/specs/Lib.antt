@@ -4,6 +4,7 @@ pub mod WriterWordsLaws
 pub mod Steps
 pub mod Crossing
 pub mod CrossingLaws
+pub mod CarryLaws
 pub mod WriterPromises
 pub mod OpeningCrossing
 pub mod Positions
@@ -12,6 +13,8 @@ pub mod ReaderWords
 pub mod ReaderWordsLaws
 pub mod ReaderSteps
 pub mod ReaderCrossing
+pub mod ReaderCarryLaws
 pub mod ReaderPromises
 pub mod ReaderCrossingLaws
 pub mod ReaderPromisesLaws
+pub mod OpeningLaws

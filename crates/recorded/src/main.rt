@@ -7,11 +7,11 @@
 ghost use mathlib.Core.Path.{_≡_};
 ghost use lib.ListN.{length};
 
-mod text;
 mod answers;
 mod calls;
 mod reader;
 mod small;
+mod text;
 mod writer;
 
 use calls::Call;

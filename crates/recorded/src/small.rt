@@ -1,7 +1,7 @@
 // Positions and sums, replayed.
-use crate::text;
 use crate::answers;
 use crate::calls::SmallCall;
+use crate::text;
 use entry::Deserialized;
 use entry::LogPosition;
 use entry::Serialized;

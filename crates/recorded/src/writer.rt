@@ -1,9 +1,9 @@
 // The writer's calls, replayed. A line of answers: the number of refusal, four words, then file position, staged bytes, file length, synchronized
 // number, whether a last id is known, the last id, and the sum of the logical segment.
-use crate::text;
 use crate::answers;
 use crate::answers::Reply;
 use crate::calls::WriterCall;
+use crate::text;
 use buffered::seek::Landing;
 use buffered::seek::SeekFrom;
 use log_file::Answer;
