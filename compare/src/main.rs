@@ -4,6 +4,7 @@ mod bench;
 mod calls;
 mod check_model;
 mod cover;
+mod cuts;
 mod difference;
 mod faults;
 mod library;
@@ -35,12 +36,15 @@ compare again writer|reader NUMBER SEED
 compare faults              every known difference as a named run
 compare check-model [CALLS SEED]
                             the library against the model: any words, any slices, any order
+compare cuts [STORIES SEED] one story written and read twice, cut and staged in other ways
 compare record FILE         a fixed list of calls with the Rust's answers
 compare replay FILE         such a list, replayed on the library
 compare bench               the benchmark's tables";
 
 const CHECK_MODEL_CALLS: u64 = 5_000_000;
 const CHECK_MODEL_SEED: u64 = 7;
+const STORIES: u64 = 100_000;
+const STORIES_SEED: u64 = 11;
 
 fn main() -> ExitCode {
     panics::hush();
@@ -72,6 +76,8 @@ fn run(words: &[&str]) -> Verdict {
         ["again", side, trace, seed] => checked(|| Run::new(bench).again(side, number(trace)?, number(seed)?)),
         ["check-model"] => check_model::run(CHECK_MODEL_CALLS, CHECK_MODEL_SEED),
         ["check-model", calls, seed] => check_model::run(number(calls)?, number(seed)?),
+        ["cuts"] => cuts::run(STORIES, STORIES_SEED),
+        ["cuts", stories, seed] => cuts::run(number(stories)?, number(seed)?),
         ["record", file] => checked(|| record::run(&bench, Path::new(file))),
         ["replay", file] => record::replay::run(Path::new(file)),
         ["bench"] => bench::run(&bench),
