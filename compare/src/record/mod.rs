@@ -15,14 +15,19 @@
 //! | `reader` | file id, image |
 //! | `entry` `next` `check` `skip` `whole` | (`next` is a call for a chunk) |
 //! | `data` | bytes asked |
+//! | `first` | file id, image: opening, the first entry, and that entry whole |
+//! | `bytes` | file id, image, bytes asked: those of the first entry's first chunk, and its CRC's check |
 //! | `put` / `get` | file id and offset / bytes of a position |
 //! | `sum` | finished sum, bytes |
 //!
 //! A writer's answer: number, the four answer words, then file position, staged bytes, file length, synchronized
 //! number, last id known, last id, and the sum of the logical segment. A reader's: number, four words, place,
 //! `valid_until`, bytes owed (0 outside a chunk), and for `data` its bytes. A refused opening answers its number alone.
+//! `first` answers the opening's number, and as far as the Rust came, number and words of the entry and of the whole
+//! entry, then place and `valid_until`. `bytes` answers the bytes, and the check's number and word.
 //! `put` answers number and bytes, `get` number, file id and offset, `sum` the sum.
 
+mod first_side;
 mod reader_side;
 pub mod replay;
 mod text;
@@ -38,6 +43,7 @@ use crate::{difference::Verdict, rng::Rng, rust_writer::Bench};
 const SEED: u64 = 3720;
 const WRITER_TRACES: u64 = 200;
 const READER_TRACES: u64 = 300;
+const FIRST_IMAGES: u64 = 300;
 const SMALL_CALLS: u64 = 60;
 
 pub fn run(bench: &Bench, path: &Path) -> Verdict {
@@ -47,6 +53,9 @@ pub fn run(bench: &Bench, path: &Path) -> Verdict {
     }
     for number in 0..READER_TRACES {
         reader_side::record(bench, &mut Rng::for_trace(!SEED, number), &mut lines)?;
+    }
+    for number in 0..FIRST_IMAGES {
+        first_side::record(bench, &mut Rng::for_trace(SEED + 1, number), &mut lines)?;
     }
     small(&mut Rng::new(SEED), &mut lines)?;
     fs::write(path, lines.join("\n") + "\n")?;

@@ -37,6 +37,8 @@ impl Replay {
         match words.next()? {
             "open" => self.open(&mut words),
             "reader" => self.open_reader(&mut words),
+            "first" => first(&mut words),
+            "bytes" => bytes(&mut words),
             "put" => put(&mut words),
             "get" => get(&mut words),
             "sum" => sum(&mut words),
@@ -99,6 +101,38 @@ impl Replay {
             _ => Ok(line),
         }
     }
+}
+
+/// The first entry and that entry whole, by the calls of the C interface.
+fn first(words: &mut Words<'_>) -> Verdict<String> {
+    let (file_id, image) = (words.number()?, unhex(words.next()?)?);
+    let mut ours = OurReader { words: [0; 10], image: &image };
+    let (opening, _) = ours.call(&ReaderCall::Open(file_id));
+    if opening != 0 {
+        return Ok(opening.to_string());
+    }
+    let (number, entry) = ours.call(&ReaderCall::Entry);
+    let mut numbers = [&[0, number], entry.as_slice()].concat();
+    if entry[0] == 1 {
+        let (number, whole) = ours.call(&ReaderCall::Whole);
+        numbers.push(number);
+        numbers.extend(whole);
+        numbers.extend([ours.words[3], ours.words[4]]);
+    }
+    Ok(joined(&numbers))
+}
+
+/// Bytes of the first chunk and its CRC's check, by the calls of the C interface.
+fn bytes(words: &mut Words<'_>) -> Verdict<String> {
+    let (file_id, image) = (words.number()?, unhex(words.next()?)?);
+    let mut ours = OurReader { words: [0; 10], image: &image };
+    ours.call(&ReaderCall::Open(file_id));
+    ours.call(&ReaderCall::Entry);
+    ours.call(&ReaderCall::Chunk);
+    let (_, [place, count, ..]) = ours.call(&ReaderCall::Data(words.number()?));
+    ours.call(&ReaderCall::Data(u64::from(u32::MAX)));
+    let (number, check) = ours.call(&ReaderCall::CheckCrc);
+    Ok(format!("{} {}", hex(&image[place as usize..(place + count) as usize]), joined(&[number, check[0]])))
 }
 
 fn put(words: &mut Words<'_>) -> Verdict<String> {

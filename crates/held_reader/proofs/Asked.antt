@@ -63,10 +63,10 @@ takenAsked callee ret =
 
 module _ (res : Slot 1) where
   -- the two signatures, with the result's type open
-  abbrev Result : Lfts 1 → Type 0
+  abbrev pub Result : Lfts 1 → Type 0
   Result κs = typeAt res κs .Denot
 
-  abbrev Promise : Type 1
+  abbrev pub Promise : Type 1
   Promise = (κs : Lfts 1) → SegmentReader → List ℕ → (asked : ℕ) → Result κs → Type 0
 
   abbrev pub called : Ended

@@ -22,7 +22,7 @@ use Rattle.segment_reader.specs.declared.ReadChunkResult.the-variants.{Chunk, E
 use Rattle.segment_reader.specs.declared.ReadAnswer.the-variants.{Read}
 use Rattle.segment_reader.specs.declared.CrcAnswer.the-variants.{Right, Wrong, Refused as NotChecked}
 use Rattle.segment_reader.specs.declared.WholeAnswer.the-variants.{Whole, Aborted}
-use Rattle.held_reader.specs.Held.{held, HeldOpenAllows, HeldNewAllows, HeldWithStateAllows, HeldBytesAllows, HeldAfterBytesAllows, HeldCheckCrcAllows, HeldEntryAllows, HeldChunkAllows, HeldWholeAllows, chunksIn, FirstWholeAllows, FirstChunksAllows}
+use Rattle.held_reader.specs.Held.{held, HeldOpenAllows, HeldNewAllows, HeldWithStateAllows, HeldBytesAllows, HeldAfterBytesAllows, HeldCheckCrcAllows, HeldEntryAllows, HeldChunkAllows, HeldWholeAllows, chunksIn, FirstWholeAllows, FirstChunksAllows, FirstBytesAllows, FirstCrcAllows}
 use Rattle.held_reader.specs.HeldLaws.{first-chunks-are}
 use Rattle.held_reader.specs.declared.Reader.{Reader}
 use Rattle.held_reader.specs.declared.FirstWhole.{FirstWhole}
@@ -156,6 +156,14 @@ pub one-chunk : FirstChunksAllows 1 bytes 1
 unfolding chunksIn
 one-chunk = first-chunks-are 1 bytes first (Whole 14 1) first-is refl
 
+pub three-bytes : FirstBytesAllows 1 bytes 4 (7 ∷ 8 ∷ 9 ∷ [])
+unfolding new opened openedWith readEntry entryFrom entryMet lead readChunk chunkFrom chunkMet standing readBytes bytesIn openOf holding standsAt startOf fit inPlace leaving number fromLe
+three-bytes = refl
+
+pub first-right : FirstCrcAllows 1 bytes Right
+unfolding new opened openedWith readEntry entryFrom entryMet lead readChunk chunkFrom chunkMet standing read readIn checkCrc checkIn checkAt openOf holding standsAt startOf fit inPlace leaving number fromLe chunkSum covered crcAppend update byteStep steps bitStep
+first-right = refl
+
 pub record Refuted′ : Type 0 where
   -- the opening refused; the entry aborted
   pub not-refused : FirstWholeAllows 1 bytes (record { opening = NotOpened 2; entry = Entry 1; whole = record { reader = behind; answer = Whole 14 1 } }) → ⊥
@@ -163,6 +171,12 @@ pub record Refuted′ : Type 0 where
   -- no chunk; as many as it has bytes
   pub not-none : FirstChunksAllows 1 bytes 0 → ⊥
   pub not-three : FirstChunksAllows 1 bytes 3 → ⊥
+  -- nothing; the length before them too
+  pub not-nothing : FirstBytesAllows 1 bytes 4 [] → ⊥
+  pub not-length : FirstBytesAllows 1 bytes 4 (3 ∷ 0 ∷ 0 ∷ 0 ∷ []) → ⊥
+  -- wrong, though it is right; refused, as where bytes are owed
+  pub not-wrong : FirstCrcAllows 1 bytes Wrong → ⊥
+  pub not-six : FirstCrcAllows 1 bytes (NotChecked 6) → ⊥
 
 pub refuted′ : Refuted′
 refuted′ =
@@ -171,4 +185,8 @@ refuted′ =
       not-aborted = λ h. let e : told (1 ∷ 14 ∷ 1 ∷ []) ≡ told (2 ∷ []) = replies (first-is .2) (h .2) in let z : _≡_ {A = ℕ} 1 2 = cc in absurd (omega arith);
       not-none = λ h. let e : _≡_ {A = ℕ} 1 0 = one-chunk ∙ sym h in absurd (omega arith);
       not-three = λ h. let e : _≡_ {A = ℕ} 1 3 = one-chunk ∙ sym h in absurd (omega arith);
+      not-nothing = λ h. let e : _≡_ {A = ℕ} 7 0 = ap (λ (k : List ℕ). getD k 0 0) (three-bytes ∙ sym h) in absurd (omega arith);
+      not-length = λ h. let e : _≡_ {A = ℕ} 7 3 = ap (λ (k : List ℕ). getD k 0 0) (three-bytes ∙ sym h) in absurd (omega arith);
+      not-wrong = λ h. let e : told (1 ∷ []) ≡ told (0 ∷ []) = first-right ∙ sym h in let z : _≡_ {A = ℕ} 1 0 = cc in absurd (omega arith);
+      not-six = λ h. let e : told (1 ∷ []) ≡ refusal 6 = first-right ∙ sym h in let z : _≡_ {A = ℕ} 0 1 = cc in absurd (omega arith);
     }

@@ -1,3 +1,5 @@
 pub mod Taken
 pub mod Asked
+pub mod Anew
+pub mod AnewAsked
 pub mod Examples

@@ -5,7 +5,7 @@ use mathlib.Core.Path.{_≡_}
 use Prim.Native.Nat.{ℕ}
 use lib.ListN.{getD}
 use denote.Ref.{RefT, now}
-use Rattle.segment_reader.specs.Calls.{Reply, told, cutShort, refusal, new, readEntry, readAllChunks}
+use Rattle.segment_reader.specs.Calls.{Reply, told, cutShort, refusal, new, readEntry, readChunk, read, readAllChunks}
 use Rattle.segment_reader.specs.Promises.{openAs, entryAs, NewAllows, ReadEntryAllows, ReadChunkAllows, ReadAllows, AfterReadAllows, CheckCrcAllows, ReadAllChunksAllows}
 use Rattle.segment_reader.specs.declared.SegmentReader.{SegmentReader}
 use Rattle.segment_reader.specs.declared.Opening.{Opening}
@@ -68,3 +68,14 @@ chunksIn (refusal n) = 0
 
 abbrev pub FirstChunksAllows : (file : ℕ) → List ℕ → (chunks : ℕ) → Type 0
 FirstChunksAllows file image chunks = chunks ≡ chunksIn (readAllChunks (readEntry (new file image .reader) image .reader) image .reply)
+
+-- the state in the first entry's first chunk, before its bytes, where there is one
+abbrev pub atFirstChunk : (file : ℕ) → List ℕ → SegmentReader
+atFirstChunk file image = readChunk (readEntry (new file image .reader) image .reader) image .reader
+
+abbrev pub FirstBytesAllows : (file : ℕ) → List ℕ → (asked : ℕ) → (part : List ℕ) → Type 0
+FirstBytesAllows file image asked part = ReadAllows (atFirstChunk file image) image asked part
+
+-- a chunk has at most 2^32 - 1 bytes: behind as many, all that is there is read
+abbrev pub FirstCrcAllows : (file : ℕ) → List ℕ → CrcAnswer → Type 0
+FirstCrcAllows file image a = CheckCrcAllows (read (atFirstChunk file image) image 0xFFFFFFFF .reader) image a

@@ -4,8 +4,8 @@ use mathlib.Core.List.{List}
 use mathlib.Core.Path.{_≡_, sym, ap, _∙_}
 use Prim.Native.Nat.{ℕ}
 use denote.Ref.{RefT, now}
-use Rattle.segment_reader.specs.Calls.{Reply, Step, step, new, readEntry, readAllChunks}
-use Rattle.segment_reader.specs.Promises.{wholeReplyAs}
+use Rattle.segment_reader.specs.Calls.{Reply, Step, step, new, readEntry, readChunk, read, checkCrc, readAllChunks}
+use Rattle.segment_reader.specs.Promises.{wholeReplyAs, NewAllows, ReadEntryAllows, ReadChunkAllows, AfterReadAllows, CheckCrcAllows}
 use Rattle.segment_reader.specs.PromisesLaws.{new-one-answer, read-entry-one-answer, read-chunk-one-answer, read-one-answer, after-read-one-answer, check-crc-one-answer, read-all-chunks-one-answer}
 use Rattle.segment_reader.specs.declared.SegmentReader.{SegmentReader}
 use Rattle.segment_reader.specs.declared.Opening.{Opening}
@@ -15,7 +15,7 @@ use Rattle.segment_reader.specs.declared.ReadStep.{ReadStep}
 use Rattle.segment_reader.specs.declared.CrcAnswer.{CrcAnswer}
 use Rattle.segment_reader.specs.declared.WholeAnswer.{WholeAnswer}
 use Rattle.segment_reader.specs.declared.WholeStep.{WholeStep}
-use Rattle.held_reader.specs.Held.{byValue, HeldOpenAllows, HeldNewAllows, HeldWithStateAllows, HeldBytesAllows, HeldAfterBytesAllows, HeldCheckCrcAllows, HeldEntryAllows, HeldChunkAllows, HeldWholeAllows, chunksIn, FirstWholeAllows, FirstChunksAllows}
+use Rattle.held_reader.specs.Held.{byValue, HeldOpenAllows, HeldNewAllows, HeldWithStateAllows, HeldBytesAllows, HeldAfterBytesAllows, HeldCheckCrcAllows, HeldEntryAllows, HeldChunkAllows, HeldWholeAllows, chunksIn, FirstWholeAllows, FirstChunksAllows, atFirstChunk, FirstBytesAllows, FirstCrcAllows}
 use Rattle.held_reader.specs.declared.Reader.{Reader}
 use Rattle.held_reader.specs.declared.Opened.{Opened}
 use Rattle.held_reader.specs.declared.FirstWhole.{FirstWhole}
@@ -73,7 +73,13 @@ first-whole-one-answer file image s t x y =
 pub first-chunks-one-answer : (file : ℕ) (image : List ℕ) (s t : ℕ) → FirstChunksAllows file image s → FirstChunksAllows file image t → s ≡ t
 first-chunks-one-answer file image s t x y = x ∙ sym y
 
--- ---- the calls in a row: what `first_whole` does
+pub first-bytes-one-answer : (file : ℕ) (image : List ℕ) (asked : ℕ) (s t : List ℕ) → FirstBytesAllows file image asked s → FirstBytesAllows file image asked t → s ≡ t
+first-bytes-one-answer file image asked = read-one-answer (atFirstChunk file image) image asked
+
+pub first-crc-one-answer : (file : ℕ) (image : List ℕ) (s t : CrcAnswer) → FirstCrcAllows file image s → FirstCrcAllows file image t → s ≡ t
+first-crc-one-answer file image = check-crc-one-answer (read (atFirstChunk file image) image 0xFFFFFFFF .reader) image
+
+-- ---- the calls in a row: what `first_whole`, `first_chunk` and `first_crc` do
 
 pub first-whole-is : (file : ℕ) (image : RefT (List ℕ)) (o : Opened) (e : EntryStep) (r : Reader) (w : WholeStep) → HeldOpenAllows file image o → HeldEntryAllows (o .reader) e → HeldWithStateAllows (o .reader) (e .reader) r → HeldWholeAllows r w
     → FirstWholeAllows file (now image) (record { opening = o .answer; entry = e .answer; whole = w })
@@ -91,3 +97,14 @@ first-whole-is file image o e r w x y z u =
 -- the number in the answer that a first entry is given with
 pub first-chunks-are : (file : ℕ) (image : List ℕ) (s : FirstWhole) (a : WholeAnswer) → FirstWholeAllows file image s → s .whole .answer ≡ a → FirstChunksAllows file image (chunksIn (wholeReplyAs a))
 first-chunks-are file image s a x e = ap (λ (k : WholeAnswer). chunksIn (wholeReplyAs k)) (sym e) ∙ ap (λ (k : Step). chunksIn (k .reply)) (x .2)
+
+pub first-chunk-is : (file : ℕ) (image : List ℕ) (o : Opening) (e : EntryStep) (c : ChunkStep) → NewAllows file image o → ReadEntryAllows (o .reader) image e → ReadChunkAllows (e .reader) image c
+    → c .reader ≡ atFirstChunk file image
+first-chunk-is file image o e c x y z =
+    let s = ap (λ (k : Step). k .reader) x in
+    let s′ = ap (λ (k : Step). k .reader) y ∙ ap (λ (k : SegmentReader). readEntry k image .reader) s in
+    ap (λ (k : Step). k .reader) z ∙ ap (λ (k : SegmentReader). readChunk k image .reader) s′
+
+pub first-crc-is : (file : ℕ) (image : List ℕ) (r : SegmentReader) (s : ReadStep) (a : CrcAnswer) → r ≡ atFirstChunk file image → AfterReadAllows r image 0xFFFFFFFF s → CheckCrcAllows (s .reader) image a → FirstCrcAllows file image a
+first-crc-is file image r s a x y z =
+    z ∙ ap (λ (k : SegmentReader). checkCrc k image) (ap (λ (k : Step). k .reader) y ∙ ap (λ (k : SegmentReader). read k image 0xFFFFFFFF .reader) x)

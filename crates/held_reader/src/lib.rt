@@ -1,7 +1,9 @@
 // The thin reader: the caller's image and a reader's state over it, held together (document 01, "It holds the caller's image and a place in it"). Each
 // call takes the struct apart and leaves the work, every branch too, to one call of segment_reader; none requires anything. What each answers is
 // specs/Held. A function that has a `Reader` among its parameters or locals is proved by hand; a caller of first_whole is not.
-ghost use Rattle.held_reader.specs.Held.{HeldOpenAllows, HeldNewAllows, HeldWithStateAllows, HeldBytesAllows, HeldAfterBytesAllows, HeldCheckCrcAllows, HeldEntryAllows, HeldChunkAllows, HeldWholeAllows, FirstWholeAllows, FirstChunksAllows};
+ghost use mathlib.Core.Path.{_≡_};
+ghost use Rattle.segment_reader.specs.Promises.{ReadEntryAllows, ReadChunkAllows, CheckCrcAllows, ReadAllows, AfterReadAllows};
+ghost use Rattle.held_reader.specs.Held.{HeldOpenAllows, HeldNewAllows, HeldWithStateAllows, HeldBytesAllows, HeldAfterBytesAllows, HeldCheckCrcAllows, HeldEntryAllows, HeldChunkAllows, HeldWholeAllows, FirstWholeAllows, FirstChunksAllows, FirstBytesAllows, FirstCrcAllows, atFirstChunk};
 use segment_reader::ChunkStep;
 use segment_reader::CrcAnswer;
 use segment_reader::EntryAnswer;
@@ -136,4 +138,66 @@ pub fn first_chunks(image: &[u8], file_id: u64) -> u64
         WholeAnswer::Cut(_) => 0,
         WholeAnswer::Refused(_) => 0,
     }
+}
+
+// ---- a reader put together from an image and a state, and asked once
+
+fn entry_of(image: &[u8], state: SegmentReader) -> EntryStep
+    ensures { λ r. ⌜ ReadEntryAllows state (now (image .entry)) r ⌝ }
+{
+    Reader::new(image, state).entry()
+}
+
+fn chunk_of(image: &[u8], state: SegmentReader) -> ChunkStep
+    ensures { λ r. ⌜ ReadChunkAllows state (now (image .entry)) r ⌝ }
+{
+    Reader::new(image, state).chunk()
+}
+
+fn bytes_of(image: &[u8], state: SegmentReader, asked: u64) -> &[u8]
+    ensures { λ r. ⌜ ReadAllows state (now (image .entry)) asked (now r) ⌝ }
+{
+    Reader::new(image, state).bytes(asked)
+}
+
+fn after_bytes_of(image: &[u8], state: SegmentReader, asked: u64) -> ReadStep
+    ensures { λ r. ⌜ AfterReadAllows state (now (image .entry)) asked r ⌝ }
+{
+    Reader::new(image, state).after_bytes(asked)
+}
+
+fn crc_of(image: &[u8], state: SegmentReader) -> CrcAnswer
+    ensures { λ r. ⌜ CheckCrcAllows state (now (image .entry)) r ⌝ }
+{
+    Reader::new(image, state).check_crc()
+}
+
+// ---- the first chunk of the first entry: covered, over the functions above
+
+// The state in that chunk, before its bytes, where there is one.
+fn first_chunk(image: &[u8], file_id: u64) -> SegmentReader
+    ensures { λ r. ⌜ r ≡ atFirstChunk «file_id» (now (image .entry)) ⌝ }
+{
+    let opening = SegmentReader::new(image, file_id);
+    let opened = opening.reader;
+    let entered = entry_of(image, opened);
+    let state = entered.reader;
+    let met = chunk_of(image, state);
+    met.reader
+}
+
+// Its bytes, at most as many as are asked for: a part of the image, for as long as the image itself is lent. Empty where there is no such chunk.
+pub fn first_bytes(image: &[u8], file_id: u64, asked: u64) -> &[u8]
+    ensures { λ r. ⌜ FirstBytesAllows «file_id» (now (image .entry)) asked (now r) ⌝ }
+{
+    bytes_of(image, first_chunk(image, file_id), asked)
+}
+
+// Whether its stored CRC is that of its data. Refused with 6 where there is no such chunk or bytes of it are missing; 9 where the CRC is cut.
+pub fn first_crc(image: &[u8], file_id: u64) -> CrcAnswer
+    ensures { λ r. ⌜ FirstCrcAllows «file_id» (now (image .entry)) r ⌝ }
+{
+    let read = after_bytes_of(image, first_chunk(image, file_id), 4294967295);
+    let behind = read.reader;
+    crc_of(image, behind)
 }

@@ -47,9 +47,14 @@ fn put_byte(byte: u8) {
     io::print_hex(STDOUT_FILENO, byte as u64, 2);
 }
 
-// A space and the bytes as pairs of hex digits, `-` for none.
+// A space and the bytes.
 pub(crate) fn put_bytes(bytes: &[u8]) {
     io::write_all(STDOUT_FILENO, b" ");
+    put_hex(bytes);
+}
+
+// The bytes as pairs of hex digits, `-` for none.
+pub(crate) fn put_hex(bytes: &[u8]) {
     if bytes.len() == 0 {
         io::write_all(STDOUT_FILENO, b"-");
     }

@@ -26,6 +26,12 @@ pub enum ReaderCall {
     Whole,
 }
 
+// The first entry, and the bytes of its first chunk.
+pub enum FirstCall {
+    First,
+    Bytes,
+}
+
 // A position as bytes, bytes as a position, a sum; anything else is no call.
 pub enum SmallCall {
     Put,
@@ -39,6 +45,7 @@ pub enum Call {
     Writer(WriterCall),
     OpenReader,
     Reader(ReaderCall),
+    First(FirstCall),
     Small(SmallCall),
 }
 
@@ -114,6 +121,16 @@ fn reader_call(name: &[u8]) -> Call {
     }
     if crate::text::same(name, b"whole") {
         return Call::Reader(ReaderCall::Whole);
+    }
+    first_call(name)
+}
+
+fn first_call(name: &[u8]) -> Call {
+    if crate::text::same(name, b"first") {
+        return Call::First(FirstCall::First);
+    }
+    if crate::text::same(name, b"bytes") {
+        return Call::First(FirstCall::Bytes);
     }
     small_call(name)
 }

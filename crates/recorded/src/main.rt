@@ -1,4 +1,4 @@
-// Replays a fixed list of calls, recorded from the unchanged Rust, on the public calls of crc32c, entry, log_file and segment_reader. A line of the
+// Replays a fixed list of calls, recorded from the unchanged Rust, on the public calls of crc32c, entry, log_file, segment_reader and held_reader. A line of the
 // input is a call and its words, one space apart: numbers in decimal, bytes as pairs of hex digits, `-` for none. For each a line of answers is written.
 //
 // The list is made by the comparison with the Rust (compare/, its `record` command), one line `CALL = ANSWERS` for each call that the Rust took: no line
@@ -9,6 +9,7 @@ ghost use lib.ListN.{length};
 
 mod answers;
 mod calls;
+mod first;
 mod reader;
 mod small;
 mod text;
@@ -72,6 +73,11 @@ fn answer(desk: Desk, image: &mut [u8], staging: &mut [u8], line: &[u8]) -> Desk
             let size = desk.size;
             let part = text::first(image, size);
             with_reader(desk, reader::line(r, call, part, line), size)
+        }
+        Call::First(call) => {
+            let size = text::unhex(text::word(line, 2), image);
+            first::line(call, &image[..size], line);
+            desk
         }
         Call::Small(call) => {
             small::line(call, line);

@@ -98,16 +98,22 @@ fn put_turn(turn: Turn) {
     answers::put(owed(moment));
 }
 
-fn entry(step: EntryStep) -> Turn {
-    let reader = step.reader;
-    let answer = step.answer;
-    let reply = match answer {
+pub(crate) fn entry_reply(answer: EntryAnswer) -> Reply {
+    match answer {
         EntryAnswer::Entry { id } => answers::words(1, id, 0, 0),
         EntryAnswer::Ended => answers::words(0, 0, 0, 0),
         EntryAnswer::Cut(_) => answers::refused(9),
         EntryAnswer::Refused(no) => answers::refused(no),
-    };
-    Turn { reader, reply }
+    }
+}
+
+fn entry(step: EntryStep) -> Turn {
+    let reader = step.reader;
+    let answer = step.answer;
+    Turn {
+        reader,
+        reply: entry_reply(answer),
+    }
 }
 
 fn chunk(step: ChunkStep) -> Turn {
@@ -133,7 +139,7 @@ fn read(step: ReadStep) -> Turn {
     Turn { reader, reply }
 }
 
-fn checked(answer: CrcAnswer) -> Reply {
+pub(crate) fn checked(answer: CrcAnswer) -> Reply {
     match answer {
         CrcAnswer::Right => answers::words(1, 0, 0, 0),
         CrcAnswer::Wrong => answers::words(0, 0, 0, 0),
@@ -152,14 +158,20 @@ fn skipped(step: SkipStep) -> Turn {
     Turn { reader, reply }
 }
 
-fn whole(step: WholeStep) -> Turn {
-    let reader = step.reader;
-    let answer = step.answer;
-    let reply = match answer {
+pub(crate) fn whole_reply(answer: WholeAnswer) -> Reply {
+    match answer {
         WholeAnswer::Whole { place, chunks } => answers::words(1, place, chunks, 0),
         WholeAnswer::Aborted => answers::words(2, 0, 0, 0),
         WholeAnswer::Cut(_) => answers::refused(9),
         WholeAnswer::Refused(no) => answers::refused(no),
-    };
-    Turn { reader, reply }
+    }
+}
+
+fn whole(step: WholeStep) -> Turn {
+    let reader = step.reader;
+    let answer = step.answer;
+    Turn {
+        reader,
+        reply: whole_reply(answer),
+    }
 }
