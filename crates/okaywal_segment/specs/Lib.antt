@@ -18,3 +18,5 @@ pub mod ReaderPromises
 pub mod ReaderCrossingLaws
 pub mod ReaderPromisesLaws
 pub mod OpeningLaws
+pub mod WrongAnswers
+pub mod WriterWrongAnswers
