@@ -20,3 +20,4 @@ pub mod ReaderPromisesLaws
 pub mod OpeningLaws
 pub mod WrongAnswers
 pub mod WriterWrongAnswers
+pub mod ReaderWrongAnswers

@@ -1,5 +1,6 @@
--- One segment written across the boundary: what each function of a writer may return and leave there, computed from the definitions, and wrong answers
--- that its promise does not allow. The segment 1 has 32 bytes and no version info; its entry 7 has one chunk, 7, 8, 9; 24 bytes can be staged.
+-- One segment written across the boundary, from its opening to its recycling: what each function of a writer may return and leave, computed from the
+-- definitions, and wrong answers that its promise does not allow. A call begins where one before it ended. The segment 4 has 32 bytes and one byte of version
+-- info; its entry 7 has one chunk, 7, 8, 9.
 use Prim.Native.Nat.{ℕ}
 use mathlib.Core.Path.{refl}
 use mathlib.Core.List.{List, [], _∷_, _++_}
@@ -23,7 +24,7 @@ use Rattle.okaywal_segment.specs.WrongAnswers.{apart}
 -- ---- the bytes: the header; 01 and the id; with 02 and the length; with the data; with the sum; with 03
 
 abbrev pub header : List ℕ
-header = 0x6F ∷ 0x6B ∷ 0x77 ∷ 0 ∷ 0 ∷ []
+header = 0x6F ∷ 0x6B ∷ 0x77 ∷ 0 ∷ 1 ∷ 0x41 ∷ []
 
 abbrev pub begun : List ℕ
 begun = 1 ∷ 7 ∷ 0 ∷ 0 ∷ 0 ∷ 0 ∷ 0 ∷ 0 ∷ 0 ∷ []
@@ -42,36 +43,38 @@ entry = finished ++ (3 ∷ [])
 
 -- the image before the entry is flushed, and after
 abbrev pub image : List ℕ
-image = header ++ replicate 27 0
+image = header ++ replicate 26 0
 
 abbrev pub flushedImage : List ℕ
-flushedImage = header ++ entry ++ replicate 5 0
+flushedImage = header ++ entry ++ replicate 4 0
 
--- staged bytes, and zeros behind them
+-- bytes, and zeros behind them
 abbrev pub staging : (bytes : List ℕ) (rest : ℕ) → List ℕ
 staging bytes rest = bytes ++ replicate rest 0
 
 -- ---- the words
 
 abbrev pub info : List ℕ
-info = replicate 255 0
+info = 0x41 ∷ replicate 254 0
+
+-- the last id is not known, or 7
+abbrev pub state : (length position staged synchronized : ℕ) (moment : List ℕ) → List ℕ
+state l p g y moment = 4 ∷ 1 ∷ 32 ∷ 24 ∷ l ∷ p ∷ g ∷ y ∷ 0 ∷ 0 ∷ moment
 
 abbrev pub idle : List ℕ
 idle = replicate 6 0
 
 abbrev pub inEntry : List ℕ
-inEntry = 1 ∷ 7 ∷ 5 ∷ 0 ∷ 0 ∷ 0 ∷ []
+inEntry = 1 ∷ 7 ∷ 6 ∷ 0 ∷ 0 ∷ 0 ∷ []
 
 abbrev pub inChunk : (owed crc : ℕ) → List ℕ
-inChunk owed crc = 2 ∷ 7 ∷ 5 ∷ 3 ∷ owed ∷ crc ∷ []
+inChunk owed crc = 2 ∷ 7 ∷ 6 ∷ 3 ∷ owed ∷ crc ∷ []
 
--- file length and file position are one number here
-abbrev pub state : (file staged synchronized : ℕ) (moment : List ℕ) → List ℕ
-state p g y moment = 1 ∷ 0 ∷ 32 ∷ 24 ∷ p ∷ p ∷ g ∷ y ∷ 0 ∷ 0 ∷ moment
+abbrev pub committed : (length position staged synchronized : ℕ) → List ℕ
+committed l p g y = 4 ∷ 1 ∷ 32 ∷ 24 ∷ l ∷ p ∷ g ∷ y ∷ 1 ∷ 7 ∷ idle
 
--- the last id is 7
-abbrev pub committed : (file staged synchronized : ℕ) → List ℕ
-committed p g y = 1 ∷ 0 ∷ 32 ∷ 24 ∷ p ∷ p ∷ g ∷ y ∷ 1 ∷ 7 ∷ idle
+abbrev pub recycled : (synchronized known last : ℕ) → List ℕ
+recycled y known last = 5 ∷ 1 ∷ 32 ∷ 24 ∷ 28 ∷ 0 ∷ 6 ∷ y ∷ known ∷ last ∷ idle
 
 -- an answer before the call
 abbrev pub old : List ℕ
@@ -79,72 +82,73 @@ old = replicate 4 9
 
 -- ---- the calls
 
--- into 8 bytes, with a version info of one byte; the last id is not known, or known with 2
+-- an empty file, padded to 8 bytes; the last id is 3 where it is known
 abbrev pub Open : (known : ℕ) (number : ℕ) (state′ info′ image′ staging′ : List ℕ) → Type 0
-Open known = OpenAllows (replicate 16 9) (replicate 255 9) (replicate 8 9) (replicate 4 9) (request (0x41 ∷ []) 1 known 3 0 0 8)
+Open known = OpenAllows (replicate 16 9) (replicate 255 9) (replicate 32 0) (replicate 24 0) (request (0x41 ∷ []) 4 known 3 0 0 8)
 
 abbrev pub Begin : (id : ℕ) (number : ℕ) (state′ image′ staging′ : List ℕ) → Type 0
-Begin id = BeginAllows (state 5 0 5 idle) info image (replicate 24 0) id
+Begin id = BeginAllows (state 8 6 0 0 idle) info image (staging header 18) id
 
 abbrev pub BeginChunk : (number : ℕ) (state′ image′ staging′ : List ℕ) → Type 0
-BeginChunk = BeginChunkAllows (state 5 9 5 inEntry) info image (staging begun 15) 3
+BeginChunk = BeginChunkAllows (state 8 6 9 0 inEntry) info image (staging begun 15) 3
 
--- four bytes offered, three owed
+-- four bytes are offered, three owed
 abbrev pub Write : (number : ℕ) (state′ image′ staging′ answer′ : List ℕ) → Type 0
-Write = WriteAllows (state 5 14 5 (inChunk 3 0)) info image (staging chunkBegun 10) (7 ∷ 8 ∷ 9 ∷ 10 ∷ []) old
+Write = WriteAllows (state 8 6 14 0 (inChunk 3 0)) info image (staging chunkBegun 10) (7 ∷ 8 ∷ 9 ∷ 10 ∷ []) old
 
 abbrev pub Finish : (number : ℕ) (state′ image′ staging′ answer′ : List ℕ) → Type 0
-Finish = FinishAllows (state 5 17 5 (inChunk 0 0xF132_DF67)) info image (staging filled 7) old
+Finish = FinishAllows (state 8 6 17 0 (inChunk 0 0xF132_DF67)) info image (staging filled 7) old
 
 abbrev pub Commit : (number : ℕ) (state′ image′ staging′ answer′ : List ℕ) → Type 0
-Commit = CommitAllows (state 5 21 5 inEntry) info image (staging finished 3) old
+Commit = CommitAllows (state 8 6 21 0 inEntry) info image (staging finished 3) old
 
 -- in the chunk
 abbrev pub Rollback : (number : ℕ) (state′ image′ staging′ : List ℕ) → Type 0
-Rollback = RollbackAllows (state 5 17 5 (inChunk 0 0xF132_DF67)) info image (staging filled 7)
-
-abbrev pub Recycle : (number : ℕ) (state′ image′ staging′ : List ℕ) → Type 0
-Recycle = RecycleAllows (committed 27 0 27) info flushedImage (staging entry 2) 9
+Rollback = RollbackAllows (state 8 6 17 0 (inChunk 0 0xF132_DF67)) info image (staging filled 7)
 
 abbrev pub Flush : (number : ℕ) (state′ image′ staging′ : List ℕ) → Type 0
-Flush = FlushAllows (committed 5 22 5) info image (staging entry 2)
+Flush = FlushAllows (committed 8 6 22 0) info image (staging entry 2)
 
 abbrev pub Sync : (number : ℕ) (state′ image′ staging′ : List ℕ) → Type 0
-Sync = SyncAllows (committed 5 22 5) info image (staging entry 2) 27
+Sync = SyncAllows (committed 8 6 22 0) info image (staging entry 2) 28
+
+-- as the segment 5
+abbrev pub Recycle : (number : ℕ) (state′ image′ staging′ : List ℕ) → Type 0
+Recycle = RecycleAllows (committed 28 28 0 28) info flushedImage (staging entry 2) 5
 
 abbrev pub LandStart : (number : ℕ) (answer′ : List ℕ) → Type 0
-LandStart = LandStartAllows (committed 5 22 5) info image (staging entry 2) 30 old
+LandStart = LandStartAllows (committed 8 6 22 0) info image (staging entry 2) 30 old
 
--- 3 before the end, and 6
+-- 3 before the end of the file, and 9
 abbrev pub LandEnd : (number : ℕ) (answer′ : List ℕ) → Type 0
-LandEnd = LandEndAllows (committed 5 22 5) info image (staging entry 2) (negsuc 2) old
+LandEnd = LandEndAllows (committed 8 6 22 0) info image (staging entry 2) (negsuc 2) old
 
 abbrev pub LandBelow : (number : ℕ) (answer′ : List ℕ) → Type 0
-LandBelow = LandEndAllows (committed 5 22 5) info image (staging entry 2) (negsuc 5) old
+LandBelow = LandEndAllows (committed 8 6 22 0) info image (staging entry 2) (negsuc 8) old
 
--- 3 before the logical position, with any answer
+-- 3 before the logical position
 abbrev pub LandCurrent : (answer : List ℕ) (number : ℕ) (answer′ : List ℕ) → Type 0
-LandCurrent = LandCurrentAllows (committed 5 22 5) info image (staging entry 2) (negsuc 2)
+LandCurrent = LandCurrentAllows (committed 8 6 22 0) info image (staging entry 2) (negsuc 2)
 
 -- ---- what is allowed
 
 pub record Right : Type 0 where
-  pub opens : Open 0 0 (1 ∷ 1 ∷ 8 ∷ 4 ∷ 8 ∷ 6 ∷ replicate 10 0) (0x41 ∷ replicate 254 0) (0x6F ∷ 0x6B ∷ 0x77 ∷ 0 ∷ 1 ∷ 0x41 ∷ 0 ∷ 0 ∷ []) (1 ∷ 0x41 ∷ 0x77 ∷ 0 ∷ [])
-  pub open-refused : Open 2 12 (replicate 16 0) (replicate 255 0) (replicate 8 9) (replicate 4 9)
-  pub begins : Begin 7 0 (state 5 9 5 inEntry) image (staging begun 15)
-  pub begin-refused : Begin 0 7 (state 5 0 5 idle) image (replicate 24 0)
-  pub begins-chunk : BeginChunk 0 (state 5 14 5 (inChunk 3 0)) image (staging chunkBegun 10)
-  pub writes-three : Write 0 (state 5 17 5 (inChunk 0 0xF132_DF67)) image (staging filled 7) (3 ∷ 0 ∷ 0 ∷ 0 ∷ [])
-  pub finishes : Finish 0 (state 5 21 5 inEntry) image (staging finished 3) (1 ∷ 14 ∷ 0xF132_DF67 ∷ 3 ∷ [])
-  pub commits : Commit 0 (committed 5 22 5) image (staging entry 2) (7 ∷ 27 ∷ 0 ∷ 0 ∷ [])
-  pub rolls-back : Rollback 0 (state 5 0 5 idle) image (staging filled 7)
-  pub recycles : Recycle 0 (9 ∷ 0 ∷ 32 ∷ 24 ∷ 27 ∷ 0 ∷ 5 ∷ 0 ∷ 0 ∷ 0 ∷ idle) flushedImage (header ++ staging (drop 5 entry) 2)
-  pub flushes : Flush 0 (committed 27 0 5) flushedImage (staging entry 2)
-  pub synchronizes : Sync 0 (committed 27 0 27) flushedImage (staging entry 2)
+  pub opens : Open 0 0 (state 8 6 0 0 idle) info image (staging header 18)
+  pub open-refused : Open 2 12 (replicate 16 0) (replicate 255 0) (replicate 32 0) (replicate 24 0)
+  pub begins : Begin 7 0 (state 8 6 9 0 inEntry) image (staging begun 15)
+  pub begin-refused : Begin 3 7 (state 8 6 0 0 idle) image (staging header 18)
+  pub begins-chunk : BeginChunk 0 (state 8 6 14 0 (inChunk 3 0)) image (staging chunkBegun 10)
+  pub writes-three : Write 0 (state 8 6 17 0 (inChunk 0 0xF132_DF67)) image (staging filled 7) (3 ∷ 0 ∷ 0 ∷ 0 ∷ [])
+  pub finishes : Finish 0 (state 8 6 21 0 inEntry) image (staging finished 3) (4 ∷ 15 ∷ 0xF132_DF67 ∷ 3 ∷ [])
+  pub commits : Commit 0 (committed 8 6 22 0) image (staging entry 2) (7 ∷ 28 ∷ 0 ∷ 0 ∷ [])
+  pub rolls-back : Rollback 0 (state 8 6 0 0 idle) image (staging filled 7)
+  pub flushes : Flush 0 (committed 28 28 0 0) flushedImage (staging entry 2)
+  pub synchronizes : Sync 0 (committed 28 28 0 28) flushedImage (staging entry 2)
+  pub recycles : Recycle 0 (recycled 0 0 0) flushedImage (header ++ staging (drop 6 entry) 2)
   pub lands : LandStart 0 (30 ∷ 0 ∷ 0 ∷ 0 ∷ [])
-  pub lands-by-end : LandEnd 0 (2 ∷ 0 ∷ 0 ∷ 0 ∷ [])
+  pub lands-by-end : LandEnd 0 (5 ∷ 0 ∷ 0 ∷ 0 ∷ [])
   pub below-refused : LandBelow 11 (replicate 4 0)
-  pub lands-by-current : LandCurrent old 0 (24 ∷ 0 ∷ 0 ∷ 0 ∷ [])
+  pub lands-by-current : LandCurrent old 0 (25 ∷ 0 ∷ 0 ∷ 0 ∷ [])
   pub short-refused : LandCurrent (replicate 3 9) 12 (replicate 3 9)
 
 pub right : Right
@@ -160,9 +164,9 @@ right =
       finishes = refl;
       commits = refl;
       rolls-back = refl;
-      recycles = refl;
       flushes = refl;
       synchronizes = refl;
+      recycles = refl;
       lands = refl;
       lands-by-end = refl;
       below-refused = refl;
@@ -173,46 +177,46 @@ right =
 -- ---- what is not
 
 pub record Refuted : Type 0 where
-  -- last_known 2 is taken for 1; the last id is kept though it is not known; the old info is left behind the version info
-  pub open-two-known : Open 2 0 (1 ∷ 1 ∷ 8 ∷ 4 ∷ 8 ∷ 6 ∷ 0 ∷ 0 ∷ 1 ∷ 3 ∷ idle) (0x41 ∷ replicate 254 0) (0x6F ∷ 0x6B ∷ 0x77 ∷ 0 ∷ 1 ∷ 0x41 ∷ 0 ∷ 0 ∷ []) (1 ∷ 0x41 ∷ 0x77 ∷ 0 ∷ []) → ⊥
-  pub open-last-kept : Open 0 0 (1 ∷ 1 ∷ 8 ∷ 4 ∷ 8 ∷ 6 ∷ 0 ∷ 0 ∷ 0 ∷ 3 ∷ idle) (0x41 ∷ replicate 254 0) (0x6F ∷ 0x6B ∷ 0x77 ∷ 0 ∷ 1 ∷ 0x41 ∷ 0 ∷ 0 ∷ []) (1 ∷ 0x41 ∷ 0x77 ∷ 0 ∷ []) → ⊥
-  pub open-info-left : Open 0 0 (1 ∷ 1 ∷ 8 ∷ 4 ∷ 8 ∷ 6 ∷ replicate 10 0) (0x41 ∷ replicate 254 9) (0x6F ∷ 0x6B ∷ 0x77 ∷ 0 ∷ 1 ∷ 0x41 ∷ 0 ∷ 0 ∷ []) (1 ∷ 0x41 ∷ 0x77 ∷ 0 ∷ []) → ⊥
+  -- last_known 2 is taken for 1; last_id is stored though it is not known; the old info is left behind the version info
+  pub open-two-known : Open 2 0 (4 ∷ 1 ∷ 32 ∷ 24 ∷ 8 ∷ 6 ∷ 0 ∷ 0 ∷ 1 ∷ 3 ∷ idle) info image (staging header 18) → ⊥
+  pub open-last-stored : Open 0 0 (4 ∷ 1 ∷ 32 ∷ 24 ∷ 8 ∷ 6 ∷ 0 ∷ 0 ∷ 0 ∷ 3 ∷ idle) info image (staging header 18) → ⊥
+  pub open-info-left : Open 0 0 (state 8 6 0 0 idle) (0x41 ∷ replicate 254 9) image (staging header 18) → ⊥
   -- the id is not stored in word 11; the start is taken behind the bytes written; state words are written beside a refusal
-  pub begin-id-forgotten : Begin 7 0 (state 5 9 5 (1 ∷ 0 ∷ 5 ∷ 0 ∷ 0 ∷ 0 ∷ [])) image (staging begun 15) → ⊥
-  pub begin-start-behind : Begin 7 0 (state 5 9 5 (1 ∷ 7 ∷ 14 ∷ 0 ∷ 0 ∷ 0 ∷ [])) image (staging begun 15) → ⊥
-  pub begin-beside-refusal : Begin 0 7 (state 5 0 5 (1 ∷ 0 ∷ 5 ∷ 0 ∷ 0 ∷ 0 ∷ [])) image (replicate 24 0) → ⊥
-  -- nothing is owed; the entry's start becomes the 02's
-  pub begin-chunk-owes-nothing : BeginChunk 0 (state 5 14 5 (inChunk 0 0)) image (staging chunkBegun 10) → ⊥
-  pub begin-chunk-moves-start : BeginChunk 0 (state 5 14 5 (2 ∷ 7 ∷ 14 ∷ 3 ∷ 3 ∷ 0 ∷ [])) image (staging chunkBegun 10) → ⊥
+  pub begin-id-forgotten : Begin 7 0 (state 8 6 9 0 (1 ∷ 0 ∷ 6 ∷ 0 ∷ 0 ∷ 0 ∷ [])) image (staging begun 15) → ⊥
+  pub begin-start-behind : Begin 7 0 (state 8 6 9 0 (1 ∷ 7 ∷ 15 ∷ 0 ∷ 0 ∷ 0 ∷ [])) image (staging begun 15) → ⊥
+  pub begin-beside-refusal : Begin 3 7 (state 8 6 0 0 (1 ∷ 3 ∷ 6 ∷ 0 ∷ 0 ∷ 0 ∷ [])) image (staging header 18) → ⊥
+  -- nothing is owed; the entry's start becomes the 02's offset
+  pub begin-chunk-owes-nothing : BeginChunk 0 (state 8 6 14 0 (inChunk 0 0)) image (staging chunkBegun 10) → ⊥
+  pub begin-chunk-moves-start : BeginChunk 0 (state 8 6 14 0 (2 ∷ 7 ∷ 15 ∷ 3 ∷ 3 ∷ 0 ∷ [])) image (staging chunkBegun 10) → ⊥
   -- all that was offered is counted; the sum is not carried on
-  pub write-all-counted : Write 0 (state 5 17 5 (inChunk 0 0xF132_DF67)) image (staging filled 7) (4 ∷ 0 ∷ 0 ∷ 0 ∷ []) → ⊥
-  pub write-sum-left : Write 0 (state 5 17 5 (inChunk 0 0)) image (staging filled 7) (3 ∷ 0 ∷ 0 ∷ 0 ∷ []) → ⊥
+  pub write-all-counted : Write 0 (state 8 6 17 0 (inChunk 0 0xF132_DF67)) image (staging filled 7) (4 ∷ 0 ∷ 0 ∷ 0 ∷ []) → ⊥
+  pub write-sum-left : Write 0 (state 8 6 17 0 (inChunk 0 0)) image (staging filled 7) (3 ∷ 0 ∷ 0 ∷ 0 ∷ []) → ⊥
   -- the offset is that of the data; the words of the chunk are left
-  pub finish-data-told : Finish 0 (state 5 21 5 inEntry) image (staging finished 3) (1 ∷ 19 ∷ 0xF132_DF67 ∷ 3 ∷ []) → ⊥
-  pub finish-words-left : Finish 0 (state 5 21 5 (1 ∷ 7 ∷ 5 ∷ 3 ∷ 0 ∷ 0xF132_DF67 ∷ [])) image (staging finished 3) (1 ∷ 14 ∷ 0xF132_DF67 ∷ 3 ∷ []) → ⊥
+  pub finish-data-told : Finish 0 (state 8 6 21 0 inEntry) image (staging finished 3) (4 ∷ 20 ∷ 0xF132_DF67 ∷ 3 ∷ []) → ⊥
+  pub finish-words-left : Finish 0 (state 8 6 21 0 (1 ∷ 7 ∷ 6 ∷ 3 ∷ 0 ∷ 0xF132_DF67 ∷ [])) image (staging finished 3) (4 ∷ 15 ∷ 0xF132_DF67 ∷ 3 ∷ []) → ⊥
   -- the entry's start is answered, not the position; the last id stays unknown
-  pub commit-start-told : Commit 0 (committed 5 22 5) image (staging entry 2) (7 ∷ 5 ∷ 0 ∷ 0 ∷ []) → ⊥
-  pub commit-last-forgotten : Commit 0 (state 5 22 5 idle) image (staging entry 2) (7 ∷ 27 ∷ 0 ∷ 0 ∷ []) → ⊥
-  -- the entry's bytes still count; a chunk must be finished first
-  pub rollback-bytes-counted : Rollback 0 (state 5 17 5 idle) image (staging filled 7) → ⊥
-  pub rollback-in-chunk-refused : Rollback 6 (state 5 17 5 (inChunk 0 0xF132_DF67)) image (staging filled 7) → ⊥
-  -- the last id stays; the synchronized number stays
-  pub recycle-last-kept : Recycle 0 (9 ∷ 0 ∷ 32 ∷ 24 ∷ 27 ∷ 0 ∷ 5 ∷ 0 ∷ 1 ∷ 7 ∷ idle) flushedImage (header ++ staging (drop 5 entry) 2) → ⊥
-  pub recycle-synchronized-kept : Recycle 0 (9 ∷ 0 ∷ 32 ∷ 24 ∷ 27 ∷ 0 ∷ 5 ∷ 27 ∷ 0 ∷ 0 ∷ idle) flushedImage (header ++ staging (drop 5 entry) 2) → ⊥
+  pub commit-start-told : Commit 0 (committed 8 6 22 0) image (staging entry 2) (7 ∷ 6 ∷ 0 ∷ 0 ∷ []) → ⊥
+  pub commit-last-forgotten : Commit 0 (state 8 6 22 0 idle) image (staging entry 2) (7 ∷ 28 ∷ 0 ∷ 0 ∷ []) → ⊥
+  -- the entry's bytes still count; refused, since a chunk is open
+  pub rollback-bytes-counted : Rollback 0 (state 8 6 17 0 idle) image (staging filled 7) → ⊥
+  pub rollback-in-chunk-refused : Rollback 6 (state 8 6 17 0 (inChunk 0 0xF132_DF67)) image (staging filled 7) → ⊥
   -- the staged bytes are lost; their count is left
-  pub flush-bytes-lost : Flush 0 (committed 27 0 5) image (staging entry 2) → ⊥
-  pub flush-count-left : Flush 0 (committed 27 22 5) flushedImage (staging entry 2) → ⊥
-  -- staged bytes are noted as synchronized; the number is taken before the flush
-  pub sync-bytes-staged : Sync 0 (committed 5 22 27) image (staging entry 2) → ⊥
-  pub sync-before-flush : Sync 0 (committed 27 0 5) flushedImage (staging entry 2) → ⊥
-  -- the file length is the limit; the old words are left behind the place
+  pub flush-bytes-lost : Flush 0 (committed 28 28 0 0) image (staging entry 2) → ⊥
+  pub flush-count-left : Flush 0 (committed 28 28 22 0) flushedImage (staging entry 2) → ⊥
+  -- bytes that are still staged count as synchronized; the number is taken before the flush
+  pub sync-bytes-staged : Sync 0 (committed 8 6 22 28) image (staging entry 2) → ⊥
+  pub sync-before-flush : Sync 0 (committed 28 28 0 6) flushedImage (staging entry 2) → ⊥
+  -- the last id stays; the synchronized number stays
+  pub recycle-last-kept : Recycle 0 (recycled 0 1 7) flushedImage (header ++ staging (drop 6 entry) 2) → ⊥
+  pub recycle-synchronized-kept : Recycle 0 (recycled 28 0 0) flushedImage (header ++ staging (drop 6 entry) 2) → ⊥
+  -- the file length is the limit; old words are left behind the place
   pub land-start-past-file : LandStart 11 (replicate 4 0) → ⊥
   pub land-start-words-left : LandStart 0 (30 ∷ 9 ∷ 9 ∷ 9 ∷ []) → ⊥
   -- from the image's end; a place below 0 becomes 0
   pub land-end-of-image : LandEnd 0 (29 ∷ 0 ∷ 0 ∷ 0 ∷ []) → ⊥
   pub land-end-below : LandBelow 0 (replicate 4 0) → ⊥
   -- from the file position; zeros in an answer that is too short
-  pub land-current-unstaged : LandCurrent old 0 (2 ∷ 0 ∷ 0 ∷ 0 ∷ []) → ⊥
+  pub land-current-unstaged : LandCurrent old 0 (3 ∷ 0 ∷ 0 ∷ 0 ∷ []) → ⊥
   pub land-current-short-zeroed : LandCurrent (replicate 3 9) 12 (replicate 3 0) → ⊥
 
 abbrev stateWord : ℕ → Left → ℕ
@@ -225,7 +229,7 @@ pub refuted : Refuted
 refuted =
     record {
       open-two-known = apart (λ (o : Start). o .number) (right .open-refused) refl;
-      open-last-kept = apart (λ (o : Start). word 9 (o .state)) (right .opens) refl;
+      open-last-stored = apart (λ (o : Start). word 9 (o .state)) (right .opens) refl;
       open-info-left = apart (λ (o : Start). word 1 (o .info)) (right .opens) refl;
       begin-id-forgotten = apart (stateWord 11) (right .begins) refl;
       begin-start-behind = apart (stateWord 12) (right .begins) refl;
@@ -240,12 +244,12 @@ refuted =
       commit-last-forgotten = apart (stateWord 8) (right .commits) refl;
       rollback-bytes-counted = apart (stateWord 6) (right .rolls-back) refl;
       rollback-in-chunk-refused = apart (λ (l : Left). l .number) (right .rolls-back) refl;
-      recycle-last-kept = apart (stateWord 8) (right .recycles) refl;
-      recycle-synchronized-kept = apart (stateWord 7) (right .recycles) refl;
-      flush-bytes-lost = apart (λ (l : Left). word 5 (l .image)) (right .flushes) refl;
+      flush-bytes-lost = apart (λ (l : Left). word 6 (l .image)) (right .flushes) refl;
       flush-count-left = apart (stateWord 6) (right .flushes) refl;
       sync-bytes-staged = apart (stateWord 6) (right .synchronizes) refl;
       sync-before-flush = apart (stateWord 7) (right .synchronizes) refl;
+      recycle-last-kept = apart (stateWord 8) (right .recycles) refl;
+      recycle-synchronized-kept = apart (stateWord 7) (right .recycles) refl;
       land-start-past-file = apart (λ (l : Left). l .number) (right .lands) refl;
       land-start-words-left = apart (answerWord 1) (right .lands) refl;
       land-end-of-image = apart (answerWord 0) (right .lands-by-end) refl;

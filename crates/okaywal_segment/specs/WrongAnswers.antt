@@ -24,12 +24,12 @@ apart look r e w = eqb-false _ _ e (ap look (r ∙ sym w))
 abbrev pub Append : (result : ℕ) → Type 0
 Append = AppendAllows 0x1D5_E658 (9 ∷ [])
 
--- the position 14 in file 1, into 17 bytes and into 15
+-- the position 15 in file 4, into 17 bytes and into 15
 abbrev pub Write : (number : ℕ) (buffer′ : List ℕ) → Type 0
-Write = PositionWriteAllows 1 14 (replicate 17 9)
+Write = PositionWriteAllows 4 15 (replicate 17 9)
 
 abbrev pub WriteShort : (number : ℕ) (buffer′ : List ℕ) → Type 0
-WriteShort = PositionWriteAllows 1 14 (replicate 15 9)
+WriteShort = PositionWriteAllows 4 15 (replicate 15 9)
 
 -- a number below 256 in 8 bytes
 abbrev pub eight : ℕ → List ℕ
@@ -37,18 +37,18 @@ eight n = n ∷ replicate 7 0
 
 -- and read again, into four words and into three
 abbrev pub Read : (number : ℕ) (answer′ : List ℕ) → Type 0
-Read = PositionReadAllows (eight 1 ++ eight 14) (replicate 4 9)
+Read = PositionReadAllows (eight 4 ++ eight 15) (replicate 4 9)
 
 abbrev pub ReadShort : (number : ℕ) (answer′ : List ℕ) → Type 0
-ReadShort = PositionReadAllows (eight 1 ++ eight 14) (replicate 3 9)
+ReadShort = PositionReadAllows (eight 4 ++ eight 15) (replicate 3 9)
 
 -- ---- what is allowed
 
 pub record Right : Type 0 where
   pub appends : Append 0xF132_DF67
-  pub writes : Write 0 (eight 1 ++ eight 14 ++ (9 ∷ []))
+  pub writes : Write 0 (eight 4 ++ eight 15 ++ (9 ∷ []))
   pub write-refused : WriteShort 5 (replicate 15 9)
-  pub reads : Read 0 (1 ∷ 14 ∷ 0 ∷ 0 ∷ [])
+  pub reads : Read 0 (4 ∷ 15 ∷ 0 ∷ 0 ∷ [])
   pub read-refused : ReadShort 12 (replicate 3 9)
 
 pub right : Right
@@ -62,10 +62,10 @@ pub record Refuted : Type 0 where
   pub append-begun-anew : Append 0x2ACF_889D → ⊥
   pub append-unfinished : Append 0xECD_2098 → ⊥
   -- offset before file id; 0 for a buffer that is too short, with what fits of the bytes
-  pub write-swapped : Write 0 (eight 14 ++ eight 1 ++ (9 ∷ [])) → ⊥
-  pub write-cut : WriteShort 0 (eight 1 ++ (14 ∷ replicate 6 0)) → ⊥
+  pub write-swapped : Write 0 (eight 15 ++ eight 4 ++ (9 ∷ [])) → ⊥
+  pub write-cut : WriteShort 0 (eight 4 ++ (15 ∷ replicate 6 0)) → ⊥
   -- offset before file id; zeros beside 12 in an answer that is too short
-  pub read-swapped : Read 0 (14 ∷ 1 ∷ 0 ∷ 0 ∷ []) → ⊥
+  pub read-swapped : Read 0 (15 ∷ 4 ∷ 0 ∷ 0 ∷ []) → ⊥
   pub read-short-zeroed : ReadShort 12 (replicate 3 0) → ⊥
 
 pub refuted : Refuted
