@@ -10,7 +10,7 @@ use Rattle.lists.specs.Lay.{lay}
 use Rattle.little_endian.specs.LittleEndian.{le}
 use Rattle.crc32c.specs.Crc.{bitStep, steps, byteStep, update, crcAppend}
 use Rattle.entry.specs.Format.{covered, chunkSum}
-use Rattle.buffered.specs.Staging.{flushed, direct, staged, emptied, rounds, written, writtenAll, backTo, synchronized}
+use Rattle.buffered.specs.Staging.{flushed, staged, emptied, rounds, written, writtenAll, backTo, synchronized}
 use Rattle.log_file.specs.State.{ruled, valid}
 use Rattle.log_file.specs.Calls.{checks, refusal, reports, writes, worked, momentAfter, lastAfter, idAfter, acted, called}
 use Rattle.log_file.specs.Opening.{padded, openRefusal, prepared, unheaded, headed, openedMachine, opened}
@@ -152,7 +152,7 @@ pub record Right : Type 0 where
   pub short-refused : LandCurrent (replicate 3 9) 12 (replicate 3 9)
 
 pub right : Right
-unfolding started openingOf padded openRefusal prepared unheaded headed openedMachine opened crossed writerFrom writerFits writerWords called refusal checks reports writes worked momentAfter lastAfter idAfter acted ruled valid flushed direct staged emptied rounds written writtenAll backTo synchronized lay le chunkSum covered crcAppend update byteStep steps bitStep
+unfolding started openingOf padded openRefusal prepared unheaded headed openedMachine opened crossed writerFrom writerFits writerWords called refusal checks reports writes worked momentAfter lastAfter idAfter acted ruled valid flushed staged emptied rounds written writtenAll backTo synchronized lay le chunkSum covered crcAppend update byteStep steps bitStep
 right =
     record {
       opens = refl;
