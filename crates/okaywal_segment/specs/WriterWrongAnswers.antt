@@ -57,7 +57,7 @@ staging bytes rest = bytes ++ replicate rest 0
 abbrev pub info : List ℕ
 info = 0x41 ∷ replicate 254 0
 
--- the last id is not known, or 7
+-- words 4 to 7 are given; the last id is not known
 abbrev pub state : (length position staged synchronized : ℕ) (moment : List ℕ) → List ℕ
 state l p g y moment = 4 ∷ 1 ∷ 32 ∷ 24 ∷ l ∷ p ∷ g ∷ y ∷ 0 ∷ 0 ∷ moment
 
@@ -70,9 +70,11 @@ inEntry = 1 ∷ 7 ∷ 6 ∷ 0 ∷ 0 ∷ 0 ∷ []
 abbrev pub inChunk : (owed crc : ℕ) → List ℕ
 inChunk owed crc = 2 ∷ 7 ∷ 6 ∷ 3 ∷ owed ∷ crc ∷ []
 
+-- the last id is 7
 abbrev pub committed : (length position staged synchronized : ℕ) → List ℕ
 committed l p g y = 4 ∷ 1 ∷ 32 ∷ 24 ∷ l ∷ p ∷ g ∷ y ∷ 1 ∷ 7 ∷ idle
 
+-- as the segment 5: a header is staged
 abbrev pub recycled : (synchronized known last : ℕ) → List ℕ
 recycled y known last = 5 ∷ 1 ∷ 32 ∷ 24 ∷ 28 ∷ 0 ∷ 6 ∷ y ∷ known ∷ last ∷ idle
 
