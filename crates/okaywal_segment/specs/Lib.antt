@@ -18,3 +18,6 @@ pub mod ReaderPromises
 pub mod ReaderCrossingLaws
 pub mod ReaderPromisesLaws
 pub mod OpeningLaws
+pub mod WrongAnswers
+pub mod WriterWrongAnswers
+pub mod ReaderWrongAnswers
