@@ -79,6 +79,10 @@ module _ (stop : ℕ) where
   pub place-le : (s : List ℕ) (from : ℕ) → place s from stop ≤ length s
   place-le s from = omega (arith, begins s from (min from (length s)) refl, until-le (drop (min from (length s)) s), length-drop (min from (length s)) s)
 
+  pub place-ge : (s : List ℕ) (from : ℕ) → from ≤ length s → from ≤ place s from stop
+  unfolding place
+  place-ge s from h = omega arith
+
   pub behind-place : (s : List ℕ) (from end : ℕ) → end ≡ place s from stop → drop (end + 1) s ≡ behind stop (drop from s)
   behind-place s from end e =
       rw (e, ← begins s from (min from (length s)) refl, add-one, ← add-suc, ← drop-drop, drop-until, drop-min-length)

@@ -1,34 +1,30 @@
+-- From where the word begins up to the next space.
+use native.Mathlib.Omega.{arith}
 use borrow.Author.Needs.{needs}
+use Rattle.text.proofs.Places.{place-le, place-ge, word-of}
 use Rattle.text.proofs.word.Statement.{statement}
 use Rattle.text.proofs.word.Tie as tie
-use Rattle.text.proofs.word.Reads as reads
-use Rattle.text.proofs.word.Lts as lts
-use Rattle.text.proofs.find.Reads as find-reads
-use Rattle.text.proofs.word_start.Reads as word-start-reads
 
--- src/lib.rt:71:9
 word-start-requires : tie.Need-word-start-requires
 word-start-requires c κs = search needs
 
--- src/lib.rt:72:9
 find-requires : tie.Need-find-requires
 find-requires c κs = search needs
 
--- src/lib.rt:73:5
 sub-result : tie.Need-sub-result
-sub-result c = ?
+sub-result c = let a = c .before .before .before .args in omega (arith, place-ge 32 (a .line .now) (c .before .word-start .result) (c .before .word-start .ensures .0))
 
--- src/lib.rt:73:5
 part-result-start : tie.Need-part-result-start
-part-result-start c = ?
+part-result-start c = let a = c .before .before .before .args in omega (arith, place-ge 32 (a .line .now) (c .before .word-start .result) (c .before .word-start .ensures .0))
 
--- src/lib.rt:73:5
 part-result-end : tie.Need-part-result-end
-part-result-end c = ?
+part-result-end c = let a = c .before .before .before .args in omega (arith, place-le 32 (a .line .now) (c .before .word-start .result))
 
--- src/lib.rt:68:1
 returns : tie.Need-returns
-returns c = ?
+returns c =
+    let a = c .before .before .before .before .args in
+    let w = c .before .before .word-start in
+    word-of (a .line .now) (a .k) (w .result) (c .before .find .result) (w .ensures .0) (w .ensures .1) (c .before .find .ensures)
 
 pub word-spec : {M : Type 1} → statement M
 word-spec =
