@@ -11,7 +11,6 @@ mod answers;
 mod calls;
 mod reader;
 mod small;
-mod text;
 mod writer;
 
 use calls::Call;
