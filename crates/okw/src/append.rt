@@ -7,14 +7,13 @@ use crate::files::Loaded;
 use crate::outcome;
 use crate::outcome::Outcome;
 use crate::outcome::Reason;
-use crate::text;
-use crate::text::Number;
 use crate::written;
 use log_file::LastId;
 use log_file::opening;
 use segment_reader::SegmentReader;
 use segment_reader::survey;
 use segment_reader::survey::SegmentRead;
+use text::Number;
 
 // ---- new
 

@@ -3,8 +3,7 @@ use crate::outcome;
 use crate::outcome::Outcome;
 use crate::outcome::Reason;
 use crate::say;
-use crate::text;
-use crate::text::Number;
+use text::Number;
 
 pub enum Command {
     List,

@@ -3,7 +3,6 @@ ghost use Prim.Native.Nat.{_+_, _≤_};
 ghost use lib.ListN.{length};
 use crate::outcome;
 use crate::outcome::Reason;
-use crate::text;
 
 // The number of bytes that a file has put at the start of the image, or why not.
 pub enum Loaded {

@@ -9,10 +9,9 @@ use crate::outcome;
 use crate::outcome::Outcome;
 use crate::outcome::Reason;
 use crate::say;
-use crate::text;
-use crate::text::Number;
 use segment_reader::OpenAnswer;
 use segment_reader::SegmentReader;
+use text::Number;
 
 // As `segment FILE, id 1, 64 bytes`.
 fn put_head(argument: usize, id: u64, size: usize) {

@@ -18,7 +18,6 @@ mod files;
 mod list;
 mod outcome;
 mod say;
-mod text;
 mod written;
 
 use arguments::Command;

@@ -1,5 +1,4 @@
 // The numbers of an answer, and how they are written; the words of a line as numbers.
-use crate::text;
 use libc::STDOUT_FILENO;
 
 // The number of refusal, 0 where there is none, and four words.

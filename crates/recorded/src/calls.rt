@@ -50,99 +50,99 @@ pub enum Call {
 }
 
 pub(crate) fn named(name: &[u8]) -> Call {
-    if crate::text::same(name, b"open") {
+    if text::same(name, b"open") {
         return Call::Open;
     }
-    if crate::text::same(name, b"reader") {
+    if text::same(name, b"reader") {
         return Call::OpenReader;
     }
     entry_call(name)
 }
 
 fn entry_call(name: &[u8]) -> Call {
-    if crate::text::same(name, b"begin") {
+    if text::same(name, b"begin") {
         return Call::Writer(WriterCall::Begin);
     }
-    if crate::text::same(name, b"chunk") {
+    if text::same(name, b"chunk") {
         return Call::Writer(WriterCall::Chunk);
     }
-    if crate::text::same(name, b"write") {
+    if text::same(name, b"write") {
         return Call::Writer(WriterCall::Write);
     }
-    if crate::text::same(name, b"finish") {
+    if text::same(name, b"finish") {
         return Call::Writer(WriterCall::Finish);
     }
-    if crate::text::same(name, b"commit") {
+    if text::same(name, b"commit") {
         return Call::Writer(WriterCall::Commit);
     }
-    if crate::text::same(name, b"rollback") {
+    if text::same(name, b"rollback") {
         return Call::Writer(WriterCall::Rollback);
     }
     file_call(name)
 }
 
 fn file_call(name: &[u8]) -> Call {
-    if crate::text::same(name, b"recycle") {
+    if text::same(name, b"recycle") {
         return Call::Writer(WriterCall::Recycle);
     }
-    if crate::text::same(name, b"flush") {
+    if text::same(name, b"flush") {
         return Call::Writer(WriterCall::Flush);
     }
-    if crate::text::same(name, b"sync") {
+    if text::same(name, b"sync") {
         return Call::Writer(WriterCall::Sync);
     }
-    if crate::text::same(name, b"start") {
+    if text::same(name, b"start") {
         return Call::Writer(WriterCall::Start);
     }
-    if crate::text::same(name, b"end") {
+    if text::same(name, b"end") {
         return Call::Writer(WriterCall::End);
     }
-    if crate::text::same(name, b"current") {
+    if text::same(name, b"current") {
         return Call::Writer(WriterCall::Current);
     }
     reader_call(name)
 }
 
 fn reader_call(name: &[u8]) -> Call {
-    if crate::text::same(name, b"entry") {
+    if text::same(name, b"entry") {
         return Call::Reader(ReaderCall::Entry);
     }
-    if crate::text::same(name, b"next") {
+    if text::same(name, b"next") {
         return Call::Reader(ReaderCall::Next);
     }
-    if crate::text::same(name, b"data") {
+    if text::same(name, b"data") {
         return Call::Reader(ReaderCall::Data);
     }
-    if crate::text::same(name, b"check") {
+    if text::same(name, b"check") {
         return Call::Reader(ReaderCall::Check);
     }
-    if crate::text::same(name, b"skip") {
+    if text::same(name, b"skip") {
         return Call::Reader(ReaderCall::Skip);
     }
-    if crate::text::same(name, b"whole") {
+    if text::same(name, b"whole") {
         return Call::Reader(ReaderCall::Whole);
     }
     first_call(name)
 }
 
 fn first_call(name: &[u8]) -> Call {
-    if crate::text::same(name, b"first") {
+    if text::same(name, b"first") {
         return Call::First(FirstCall::First);
     }
-    if crate::text::same(name, b"bytes") {
+    if text::same(name, b"bytes") {
         return Call::First(FirstCall::Bytes);
     }
     small_call(name)
 }
 
 fn small_call(name: &[u8]) -> Call {
-    if crate::text::same(name, b"put") {
+    if text::same(name, b"put") {
         return Call::Small(SmallCall::Put);
     }
-    if crate::text::same(name, b"get") {
+    if text::same(name, b"get") {
         return Call::Small(SmallCall::Get);
     }
-    if crate::text::same(name, b"sum") {
+    if text::same(name, b"sum") {
         return Call::Small(SmallCall::Sum);
     }
     Call::Small(SmallCall::Unknown)

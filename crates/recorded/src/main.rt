@@ -12,7 +12,6 @@ mod calls;
 mod first;
 mod reader;
 mod small;
-mod text;
 mod writer;
 
 use calls::Call;

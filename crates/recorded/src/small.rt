@@ -1,7 +1,6 @@
 // Positions and sums, replayed.
 use crate::answers;
 use crate::calls::SmallCall;
-use crate::text;
 use entry::Deserialized;
 use entry::LogPosition;
 use entry::Serialized;

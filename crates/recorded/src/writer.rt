@@ -3,7 +3,6 @@
 use crate::answers;
 use crate::answers::Reply;
 use crate::calls::WriterCall;
-use crate::text;
 use buffered::seek::Landing;
 use buffered::seek::SeekFrom;
 use log_file::Answer;

@@ -1,32 +1,23 @@
-// What the replay reads its words by: words of a line, numbers in decimal, bytes as pairs of hex digits. Every function answers any bytes.
+// internal: what programs read words by: the same text, words of a line, numbers in decimal, bytes as pairs of hex digits. Every function answers any bytes.
 ghost use mathlib.Core.Path.{_≡_};
-ghost use Prim.Native.Nat.{_≤_, min};
-ghost use lib.ListN.{length, take};
-
-// The place of the first `stop` from `from` on; the length where there is none.
-pub fn find(s: &[u8], from: usize, stop: u8) -> usize
-    requires { ⌜ from ≤ length (now s) ⌝ }
-    ensures { λ r. ⌜ (from ≤ r) × (r ≤ length (now (s .entry))) ⌝ }
-{
-    let mut i = from;
-    while i < s.len() {
-        if s[i] == stop {
-            return i;
-        }
-        i += 1;
-    }
-    i
-}
+ghost use mathlib.Core.List.{[], _∷_};
+ghost use Prim.Native.Nat.{_≤_};
+ghost use lib.ListN.{length, take, drop};
+ghost use Rattle.text.specs.Text.{same, behind, place, wordsFrom, wordAt, decimal, numberAs, orZero, hexDigit, UnhexAllows};
+ghost use Rattle.text.specs.Digits.{decimalFrom};
 
 // The first n bytes, or as many as there are.
 pub fn first(s: &[u8], n: usize) -> &[u8]
-    ensures { λ r. ⌜ now r ≡ take (min n (length (now (s .entry)))) (now (s .entry)) ⌝ }
+    ensures { λ r. ⌜ now r ≡ take n (now (s .entry)) ⌝ }
 {
     let k = lists::smaller(n, s.len());
     &s[..k]
 }
 
-pub fn same(a: &[u8], b: &[u8]) -> bool {
+// Whether both have the same bytes.
+pub fn same(a: &[u8], b: &[u8]) -> bool
+    ensures { λ r. ⌜ r ≡ same (now (a .entry)) (now (b .entry)) ⌝ }
+{
     if a.len() != b.len() {
         return false;
     }
@@ -40,17 +31,31 @@ pub fn same(a: &[u8], b: &[u8]) -> bool {
     true
 }
 
+// The place of the first `stop` from `from` on; the length where there is none.
+pub fn find(s: &[u8], from: usize, stop: u8) -> usize
+    ensures { λ r. ⌜ r ≡ place (now (s .entry)) from stop ⌝ }
+{
+    let mut i = lists::smaller(from, s.len());
+    while i < s.len() {
+        if s[i] == stop {
+            return i;
+        }
+        i += 1;
+    }
+    i
+}
+
 // Where the next word begins: behind the next space, or at the line's end.
 fn next_word(line: &[u8], at: usize) -> usize
-    requires { ⌜ at ≤ length (now line) ⌝ }
-    ensures { λ r. ⌜ r ≤ length (now (line .entry)) ⌝ }
+    ensures { λ r. ⌜ (r ≤ length (now (line .entry))) × (drop r (now (line .entry)) ≡ behind 32 (drop at (now (line .entry)))) ⌝ }
 {
     let end = find(line, at, b' ');
     if end < line.len() { end + 1 } else { end }
 }
 
+// Where the k-th word begins.
 fn word_start(line: &[u8], k: usize) -> usize
-    ensures { λ r. ⌜ r ≤ length (now (line .entry)) ⌝ }
+    ensures { λ r. ⌜ (r ≤ length (now (line .entry))) × (drop r (now (line .entry)) ≡ wordsFrom k (now (line .entry))) ⌝ }
 {
     let mut at = 0;
     let mut left = k;
@@ -62,7 +67,9 @@ fn word_start(line: &[u8], k: usize) -> usize
 }
 
 // The k-th word of a line whose words are one space apart, counted from 0; empty where there is none.
-pub fn word(line: &[u8], k: usize) -> &[u8] {
+pub fn word(line: &[u8], k: usize) -> &[u8]
+    ensures { λ r. ⌜ now r ≡ wordAt k (now (line .entry)) ⌝ }
+{
     let start = word_start(line, k);
     let end = find(line, start, b' ');
     &line[start..end]
@@ -74,7 +81,9 @@ pub enum Number {
 }
 
 // n with one digit more.
-fn with_digit(n: u64, c: u8) -> Number {
+fn with_digit(n: u64, c: u8) -> Number
+    ensures { λ r. ⌜ numberAs r ≡ decimalFrom n (c ∷ []) ⌝ }
+{
     if c < b'0' {
         return Number::Not;
     }
@@ -92,7 +101,9 @@ fn with_digit(n: u64, c: u8) -> Number {
 }
 
 // A number in decimal: one digit or more and nothing else, at most 2^64 - 1.
-pub fn decimal(s: &[u8]) -> Number {
+pub fn decimal(s: &[u8]) -> Number
+    ensures { λ r. ⌜ numberAs r ≡ decimal (now (s .entry)) ⌝ }
+{
     if s.len() == 0 {
         return Number::Not;
     }
@@ -112,8 +123,10 @@ pub fn decimal(s: &[u8]) -> Number {
     Number::Of(n)
 }
 
-// The number, 0 where the word is none.
-pub fn decimal_or_zero(s: &[u8]) -> u64 {
+// The number, 0 where the text is none.
+pub fn decimal_or_zero(s: &[u8]) -> u64
+    ensures { λ r. ⌜ r ≡ orZero (decimal (now (s .entry))) ⌝ }
+{
     match decimal(s) {
         Number::Of(n) => n,
         Number::Not => 0,
@@ -122,7 +135,7 @@ pub fn decimal_or_zero(s: &[u8]) -> u64 {
 
 // The value of a hex digit in lower case, 0 of anything else.
 fn nibble(c: u8) -> u8
-    ensures { λ r. ⌜ r ≤ 15 ⌝ }
+    ensures { λ r. ⌜ (r ≡ hexDigit c) × (r ≤ 15) ⌝ }
 {
     match c {
         b'0'..=b'9' => c - b'0',
@@ -133,7 +146,7 @@ fn nibble(c: u8) -> u8
 
 // Stores the bytes that pairs of hex digits stand for, as many as fit, and answers their number.
 pub fn unhex(s: &[u8], out: &mut [u8]) -> usize
-    ensures { λ r. ⌜ (r ≤ length (now (out .exit))) × (r ≡ length (take r (now (out .exit)))) ⌝ }
+    ensures { λ r. ⌜ UnhexAllows (now (s .entry)) (now (out .entry)) r (now (out .exit)) ⌝ }
 {
     let n = lists::smaller(s.len() / 2, out.len());
     let mut i = 0;

@@ -1,0 +1,5 @@
+pub mod Places
+pub mod Sames
+pub mod Ranges
+pub mod Numbers
+pub mod Pairs
