@@ -13,7 +13,7 @@ version = 0
 unfoldable pub header : (info : List ℕ) → List ℕ
 header info = 0x6F ∷ 0x6B ∷ 0x77 ∷ version ∷ length info ∷ info
 
--- what the sum of a chunk of n bytes covers, once it has the bytes d: these
+-- what the sum of a chunk of n bytes covers, once it has the bytes d: these. A version whose sum covers the length too would say so here, and only here
 unfoldable pub covered : (n : ℕ) (d : List ℕ) → List ℕ
 covered n d = d
 

@@ -1,6 +1,6 @@
 -- What happened since opening or recycling, the bytes that the format gives for it, and what each call answers in these terms (document 01, "The
--- writer"). Nothing here is shared with `Calls` but the calls, the declared types, the format and the numbers of refusal, so that `ShowsLaws` compares two accounts.
--- The laws are in `HistoryLaws`.
+-- writer"). Nothing here is shared with `Calls` but the calls, the declared types, the format, and how an answer is made of a row of checks and their numbers
+-- (`first`, `reply`, `obey`), so that `ShowsLaws` compares two accounts. The laws are in `HistoryLaws`.
 use Prim.Native.Nat.{ℕ, suc, _+_, _-_}
 use mathlib.Core.Bool.{Bool, true, false, not}
 use mathlib.Core.List.{List, [], _∷_, _++_, flatMap}

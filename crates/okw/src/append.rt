@@ -3,6 +3,7 @@ use crate::arguments;
 use crate::entries;
 use crate::entries::Choice;
 use crate::files;
+use crate::files::Beside;
 use crate::files::Loaded;
 use crate::outcome;
 use crate::outcome::Outcome;
@@ -92,11 +93,17 @@ fn append_at(image: &mut [u8], id: u64, valid_until: u64, entry: u64) -> Reason 
     written::put_entry(writer, image, &mut staging, entry)
 }
 
-// The reading ends past the file: the last entry that it met is cut.
+// The reading ends past the file: the last entry that it met is cut, or a chunk behind it.
 fn cut_entry(image: &[u8], id: u64, valid_until: u64) -> Reason {
     let opening = SegmentReader::new(image, id);
     let reader = opening.reader;
     let reading = entries::read(reader, image, Choice::Nothing);
+    if reading.complete {
+        return Reason::CutBehind {
+            offset: reading.last,
+            valid_until,
+        };
+    }
     Reason::CutEntry {
         offset: reading.last,
         valid_until,
@@ -121,18 +128,37 @@ fn append_to(image: &mut [u8], id: u64, entry: u64) -> Reason {
     }
 }
 
-// The entry goes into the first n bytes, and these to the file.
-fn append_file(image: &mut [u8], id: u64, entry: u64) -> Reason {
+// The file's bytes with the entry in them, in memory.
+fn append_in_memory(image: &mut [u8], id: u64, entry: u64) -> Loaded {
     match files::load(2, image, true) {
-        Loaded::Failed(reason) => reason,
+        Loaded::Failed(reason) => Loaded::Failed(reason),
         Loaded::Bytes(size) => {
             let n = lists::smaller(size, image.len());
             let reason = append_to(&mut image[..n], id, entry);
             if !outcome::is_fine(reason) {
-                return reason;
+                return Loaded::Failed(reason);
             }
-            files::replace(2, text::first(image, n))
+            Loaded::Bytes(n)
         }
+    }
+}
+
+// The new file is there, so the file stays as it is read now.
+fn append_alone(fd: i32, image: &mut [u8], id: u64, entry: u64) -> Reason {
+    match append_in_memory(image, id, entry) {
+        Loaded::Failed(reason) => files::remove_beside(2, fd, reason),
+        Loaded::Bytes(n) => files::replace(2, fd, text::first(image, n)),
+    }
+}
+
+// What is refused is refused before anything is made; what is not is done once more with the new file there.
+fn append_file(image: &mut [u8], id: u64, entry: u64) -> Reason {
+    match append_in_memory(image, id, entry) {
+        Loaded::Failed(reason) => reason,
+        Loaded::Bytes(_) => match files::make_beside(2) {
+            Beside::Failed(reason) => reason,
+            Beside::Made(fd) => append_alone(fd, image, id, entry),
+        },
     }
 }
 

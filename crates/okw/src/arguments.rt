@@ -112,11 +112,33 @@ pub(crate) fn put_word(i: usize) {
         say::with(b"argument ", i as u64);
         return;
     }
-    say::text(&word[..n]);
+    put_printed(&word[..n]);
+}
+
+// As it is, but for control characters: these as `\x0a`, so that a word stays on its line.
+fn put_printed(word: &[u8]) {
+    let mut i = 0;
+    while i < word.len() {
+        put_character(word[i]);
+        i += 1;
+    }
+}
+
+fn put_character(c: u8) {
+    match c {
+        0..=31 | 127 => {
+            say::text(b"\\x");
+            say::byte(c);
+        }
+        _ => {
+            let one = [c];
+            say::text(&one);
+        }
+    }
 }
 
 pub(crate) fn number(i: usize) -> Number {
-    let mut word = [0u8; 32];
+    let mut word = io::buffer();
     let n = os::arg(i, &mut word);
     text::decimal(&word[..n])
 }

@@ -15,19 +15,22 @@ pub enum Choice {
     Nothing,
 }
 
-// The reader behind an entry, the offset where it begins, whether it was shown, why it was refused, and whether the reading has ended instead.
+// The reader behind an entry, the offset where it begins, whether it is complete, whether it was shown, why it was refused, and whether the reading has
+// ended instead.
 pub struct Turn {
     reader: SegmentReader,
     offset: u64,
+    complete: bool,
     shown: bool,
     reason: Reason,
     over: bool,
 }
 
-// A whole reading: the end of the valid bytes, the offset of the last entry, whether any was shown, the first refusal.
+// A whole reading: the end of the valid bytes, the offset of the last entry and whether it is complete, whether any was shown, the first refusal.
 pub struct Reading {
     pub valid_until: u64,
     pub last: u64,
+    pub complete: bool,
     pub shown: bool,
     pub reason: Reason,
 }
@@ -100,6 +103,17 @@ fn is_all(choice: Choice) -> bool {
     }
 }
 
+fn is_complete(answer: WholeAnswer) -> bool {
+    if let WholeAnswer::Whole {
+        place: _,
+        chunks: _,
+    } = answer {
+        true
+    } else {
+        false
+    }
+}
+
 fn entered(r: SegmentReader, image: &[u8], id: u64, choice: Choice) -> Turn {
     let whole = r.read_all_chunks(image);
     let reader = whole.reader;
@@ -110,6 +124,7 @@ fn entered(r: SegmentReader, image: &[u8], id: u64, choice: Choice) -> Turn {
         return Turn {
             reader,
             offset,
+            complete: is_complete(answer),
             shown: true,
             reason: reason_by(answer),
             over: false,
@@ -118,6 +133,7 @@ fn entered(r: SegmentReader, image: &[u8], id: u64, choice: Choice) -> Turn {
     Turn {
         reader,
         offset,
+        complete: is_complete(answer),
         shown: false,
         reason: Reason::Fine,
         over: false,
@@ -128,6 +144,7 @@ fn over(reader: SegmentReader, reason: Reason) -> Turn {
     Turn {
         reader,
         offset: 0,
+        complete: false,
         shown: false,
         reason,
         over: true,
@@ -143,6 +160,7 @@ fn cut_off(reader: SegmentReader, cut: ChunkCut, choice: Choice) -> Turn {
     Turn {
         reader,
         offset: cut.mark,
+        complete: false,
         shown: false,
         reason,
         over: false,
@@ -161,10 +179,11 @@ fn next(r: SegmentReader, image: &[u8], choice: Choice) -> Turn {
     }
 }
 
-// Reads to the end, and shows what is chosen. An entry has ten bytes or more, so the turns are never used up.
+// Reads to the end, and shows what is chosen. An entry has nine bytes or more, so the turns are never used up.
 pub(crate) fn read(from: SegmentReader, image: &[u8], choice: Choice) -> Reading {
     let mut r = from;
     let mut last = 0;
+    let mut complete = false;
     let mut shown = false;
     let mut reason = Reason::Fine;
     let mut turns = image.len();
@@ -177,12 +196,14 @@ pub(crate) fn read(from: SegmentReader, image: &[u8], choice: Choice) -> Reading
             break;
         }
         last = met.offset;
+        complete = met.complete;
         shown = shown | met.shown;
         turns -= 1;
     }
     Reading {
         valid_until: r.valid_until,
         last,
+        complete,
         shown,
         reason,
     }

@@ -38,6 +38,9 @@ fn open(path: &[u8], to_replace: bool) -> i32 {
 pub(crate) fn load(argument: usize, image: &mut [u8], to_replace: bool) -> Loaded {
     let mut path = io::buffer();
     let n = os::arg(argument, &mut path);
+    if os::errno() != 0 {
+        return Loaded::Failed(Reason::System(os::errno()));
+    }
     let fd = open(&path[..n], to_replace);
     if fd < 0 {
         return Loaded::Failed(Reason::System(os::errno()));
@@ -109,6 +112,9 @@ fn synchronize_folder(path: &[u8]) {
 pub(crate) fn create(argument: usize, bytes: &[u8]) -> Reason {
     let mut path = io::buffer();
     let n = os::arg(argument, &mut path);
+    if os::errno() != 0 {
+        return Reason::System(os::errno());
+    }
     let reason = put_new(&path[..n], bytes);
     if outcome::is_fine(reason) {
         synchronize_folder(&path[..n]);
@@ -116,22 +122,12 @@ pub(crate) fn create(argument: usize, bytes: &[u8]) -> Reason {
     reason
 }
 
-fn at_the_file_beside(reason: Reason) -> Reason {
-    match reason {
-        Reason::System(error) => Reason::Beside(error),
-        _ => reason,
-    }
-}
+// ---- replacing
 
-// Puts the file at new in the place of the one at old.
-fn rename_over(new: &[u8], old: &[u8]) -> Reason {
-    if os::rename(new, old) == 0 {
-        synchronize_folder(old);
-        return Reason::Fine;
-    }
-    let error = os::errno();
-    os::unlink(new);
-    Reason::System(error)
+// The new file beside the one that is to be replaced, open to be written, or why there is none.
+pub enum Beside {
+    Made(i32),
+    Failed(Reason),
 }
 
 // Stores the path and `.new`, and answers the length.
@@ -145,24 +141,79 @@ fn name_beside(path: &[u8], beside: &mut [u8]) -> usize
     n + 4
 }
 
-// A new file beside it, synchronized, renamed over the old one.
-fn put_over(path: &[u8], bytes: &[u8]) -> Reason {
+fn make_new(path: &[u8]) -> Beside {
+    let mut beside = io::buffer();
+    if path.len() > 4091 {
+        return Beside::Failed(Reason::Beside(libc::ENAMETOOLONG));
+    }
+    let n = name_beside(path, &mut beside);
+    let fd = os::create(text::first(&beside, n));
+    if fd < 0 {
+        return Beside::Failed(Reason::Beside(os::errno()));
+    }
+    Beside::Made(fd)
+}
+
+// Makes the new file beside the one that the argument names. While it is there no other run makes one, so no other run replaces the file.
+pub(crate) fn make_beside(argument: usize) -> Beside {
+    let mut path = io::buffer();
+    let n = os::arg(argument, &mut path);
+    make_new(&path[..n])
+}
+
+fn remove_new(path: &[u8]) {
+    let mut beside = io::buffer();
+    if path.len() > 4091 {
+        return;
+    }
+    let n = name_beside(path, &mut beside);
+    os::unlink(text::first(&beside, n));
+}
+
+// Removes the new file again, for the reason given.
+pub(crate) fn remove_beside(argument: usize, fd: i32, reason: Reason) -> Reason {
+    let mut path = io::buffer();
+    let n = os::arg(argument, &mut path);
+    libc::close(fd);
+    remove_new(&path[..n]);
+    reason
+}
+
+// Puts the file at new in the place of the one at old.
+fn rename_over(new: &[u8], old: &[u8]) -> Reason {
+    if os::rename(new, old) == 0 {
+        synchronize_folder(old);
+        return Reason::Fine;
+    }
+    let error = os::errno();
+    os::unlink(new);
+    Reason::System(error)
+}
+
+fn put_over(path: &[u8]) -> Reason {
     let mut beside = io::buffer();
     if path.len() > 4091 {
         return Reason::Beside(libc::ENAMETOOLONG);
     }
     let n = name_beside(path, &mut beside);
-    let name = text::first(&beside, n);
-    let reason = put_new(name, bytes);
-    if !outcome::is_fine(reason) {
-        return at_the_file_beside(reason);
-    }
-    rename_over(name, path)
+    rename_over(text::first(&beside, n), path)
 }
 
-// Puts the bytes in the place of the file that the argument names.
-pub(crate) fn replace(argument: usize, bytes: &[u8]) -> Reason {
+fn at_the_file_beside(reason: Reason) -> Reason {
+    match reason {
+        Reason::System(error) => Reason::Beside(error),
+        _ => reason,
+    }
+}
+
+// Writes the new file whole, synchronizes it, and renames it over the one that the argument names.
+pub(crate) fn replace(argument: usize, fd: i32, bytes: &[u8]) -> Reason {
     let mut path = io::buffer();
     let n = os::arg(argument, &mut path);
-    put_over(&path[..n], bytes)
+    let reason = put_whole(fd, bytes);
+    if !outcome::is_fine(reason) {
+        return remove_beside(argument, fd, at_the_file_beside(reason));
+    }
+    libc::close(fd);
+    put_over(&path[..n])
 }

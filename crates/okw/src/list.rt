@@ -38,8 +38,11 @@ fn put_info(info: &[u8]) {
     say::end_line();
 }
 
-fn put_end(reading: Reading, info: &[u8]) {
+fn put_end(reading: Reading, size: usize, info: &[u8]) {
     say::with(b"valid_until ", reading.valid_until);
+    if reading.valid_until > size as u64 {
+        say::text(b", past the file");
+    }
     say::end_line();
     put_info(info);
 }
@@ -57,7 +60,7 @@ fn unread(argument: usize, reason: Reason) -> Outcome {
 fn without_id(argument: usize) -> Outcome {
     say::text(b"segment ");
     arguments::put_word(argument);
-    say::text(b": no ID\n");
+    say::text(b": its ID is no number\n");
     outcome::of(Reason::NotNumber, arguments::after(argument))
 }
 
@@ -68,7 +71,7 @@ fn list_segment(image: &[u8], id: u64) -> Reason {
     match answer {
         OpenAnswer::Opened => {
             let reading = entries::read(reader, image, Choice::All);
-            put_end(reading, reader.version_info(image));
+            put_end(reading, image.len(), reader.version_info(image));
             reading.reason
         }
         OpenAnswer::Refused(no) => {

@@ -15,6 +15,8 @@ pub enum Reason {
     NoEntry,
     // the reading ends past the file; the entry that is cut begins at offset
     CutEntry { offset: u64, valid_until: u64 },
+    // the same, and a chunk behind the complete entry at offset is cut
+    CutBehind { offset: u64, valid_until: u64 },
     Usage,
 }
 
@@ -91,11 +93,20 @@ fn put_system(error: i32) {
     }
 }
 
-fn put_cut_entry(offset: u64, valid_until: u64) {
+// As `12 (an argument outside its range): the entry at 84 is cut, the valid bytes would end at 132, past the file`.
+fn put_cut(what: &[u8], offset: u64, valid_until: u64) {
     put_number(12);
-    say::with(b": the entry at ", offset);
+    say::with(what, offset);
     say::with(b" is cut, the valid bytes would end at ", valid_until);
     say::text(b", past the file");
+}
+
+fn put_beside(error: i32) {
+    say::text(b"the new file beside it, its name and .new: ");
+    put_system(error);
+    if error == libc::EEXIST {
+        say::text(b"; another run is at it, or left it when it was cut off: then remove it");
+    }
 }
 
 pub(crate) fn put_reason(reason: Reason) {
@@ -103,10 +114,7 @@ pub(crate) fn put_reason(reason: Reason) {
         Reason::Fine => say::text(b"ok"),
         Reason::Refused(no) => put_number(no),
         Reason::System(error) => put_system(error),
-        Reason::Beside(error) => {
-            say::text(b"the new file beside it, its name and .new: ");
-            put_system(error);
-        }
+        Reason::Beside(error) => put_beside(error),
         Reason::TooLarge => {
             put_number(12);
             say::text(b": a segment has at most 1048576 bytes");
@@ -117,7 +125,11 @@ pub(crate) fn put_reason(reason: Reason) {
         Reason::CutEntry {
             offset,
             valid_until,
-        } => put_cut_entry(offset, valid_until),
+        } => put_cut(b": the entry at ", offset, valid_until),
+        Reason::CutBehind {
+            offset,
+            valid_until,
+        } => put_cut(b": a chunk behind the entry at ", offset, valid_until),
         Reason::Usage => arguments::put_expected(),
     }
 }

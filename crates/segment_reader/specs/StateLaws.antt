@@ -1,9 +1,13 @@
 -- What a state that is not refused says of its numbers.
 use mathlib.Core.Bool.{Bool, true, false, _&&_, cond}
-use mathlib.Core.Path.{_≡_, refl}
+use mathlib.Core.Path.{_≡_, refl, ap}
+use mathlib.Core.List.{List}
 use Prim.Native.Nat.{ℕ, _+_, _-_, _^_, _≤_}
+use native.Mathlib.Omega.{arith}
+use lib.ListN.{length}
 use lib.Dec.{leb, eqb}
 use borrow.Author.Tests.{leb-true, eqb-true}
+use Rattle.segment_reader.specs.Reading.{fits}
 use Rattle.segment_reader.specs.State.{most, standsAt, inPlace, fit, holding, openOf}
 use Rattle.segment_reader.specs.declared.Moment.{Moment}
 use Rattle.segment_reader.specs.declared.Moment.the-variants.{Between, InEntry, InChunk, Ended}
@@ -64,3 +68,10 @@ open-says r size id mark n owed q = go (fit r size) (r .moment) refl refl q
 
 pub open-owes : (r : SegmentReader) (size id mark n owed : ℕ) → openOf r size ≡ Chunk id mark n owed → Owes r mark n owed
 open-owes r size id mark n owed q = let z = open-says r size id mark n owed q in fit-owes r size id mark n owed (z .fits) (z .in-chunk)
+
+-- behind a chunk's data, its CRC is all there just where four bytes are left at the place
+pub four-left : (r : SegmentReader) (image : List ℕ) (id mark n : ℕ) → openOf r (length image) ≡ Chunk id mark n 0 → fits image mark n ≡ leb (r .place + 4) (length image)
+four-left r image id mark n q =
+    let b = open-owes r (length image) id mark n 0 q .behind in
+    let e : mark + 9 + n ≡ r .place + 4 = omega arith in
+    ap (λ (k : ℕ). leb k (length image)) e

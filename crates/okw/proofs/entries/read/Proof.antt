@@ -6,10 +6,10 @@ use Rattle.okw.proofs.entries.read.Statement.{statement}
 use Rattle.okw.proofs.entries.read.Tie as tie
 
 abbrev Inv-loop : tie.InvT-loop
-Inv-loop image choice r₀ last₀ shown₀ reason₀ turns₀ r last shown reason turns = Unit {0}
+Inv-loop image choice r₀ last₀ complete₀ shown₀ reason₀ turns₀ r last complete shown reason turns = Unit {0}
 
 abbrev μ-loop : tie.MeasureT-loop
-μ-loop image choice r₀ last₀ shown₀ reason₀ turns₀ r last shown reason turns = turns
+μ-loop image choice r₀ last₀ complete₀ shown₀ reason₀ turns₀ r last complete shown reason turns = turns
 
 loop-holds : tie.Need-loop-holds Inv-loop μ-loop
 loop-holds c = tt

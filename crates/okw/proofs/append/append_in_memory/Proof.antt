@@ -3,8 +3,8 @@ use Prim.Native.Nat.{_-_}
 use native.Mathlib.Omega.{arith}
 use lib.ListN.{length-take}
 use borrow.Author.Needs.{needs}
-use Rattle.okw.proofs.append.append_file.Statement.{statement}
-use Rattle.okw.proofs.append.append_file.Tie as tie
+use Rattle.okw.proofs.append.append_in_memory.Statement.{statement}
+use Rattle.okw.proofs.append.append_in_memory.Tie as tie
 
 load-requires : tie.Need-load-requires
 load-requires c κs = search needs
@@ -36,12 +36,6 @@ same-length c = search needs
 returns : tie.Need-returns
 returns c = search needs
 
-first-requires : tie.Need-first-requires
-first-requires c κs = search needs
-
-replace-requires : tie.Need-replace-requires
-replace-requires c κs = search needs
-
 same-length-2 : tie.Need-same-length-2
 same-length-2 c = search needs
 
@@ -54,8 +48,8 @@ same-length-3 c = search needs
 returns-3 : tie.Need-returns-3
 returns-3 c = search needs
 
-pub append-file-spec : {M : Type 1} → statement M
-append-file-spec =
+pub append-in-memory-spec : {M : Type 1} → statement M
+append-in-memory-spec =
     tie.close
     (tie.spec
     load-requires
@@ -68,8 +62,6 @@ append-file-spec =
     is-fine-requires
     same-length
     returns
-    first-requires
-    replace-requires
     same-length-2
     returns-2
     same-length-3
