@@ -2,18 +2,17 @@
 use mathlib.Core.Path.{_≡_, refl, ap, sym, _∙_}
 use mathlib.Core.Bool.{Bool, true, false, cond}
 use mathlib.Core.List.{List, [], _∷_, _++_}
-use mathlib.Core.Option.{Option, none, some}
-use Prim.Native.Nat.{ℕ, zero, suc, _+_, _≤_, _<_, _^_}
+use Prim.Native.Nat.{ℕ, suc, _≤_, _<_}
 use native.Mathlib.Omega.{arith}
-use lib.ListN.{length, getD, take, drop}
-use lib.Dec.{eqb, ltb}
+use lib.ListN.{length, take, drop, length-drop}
+use lib.Dec.{eqb}
 use borrow.Author.Tests.{eqb-true, eqb-false, eq-eqb, ne-eqb}
 use Rattle.lists.specs.All.{All}
 use Rattle.lists.specs.AnswersLaws.{both}
 use Rattle.lists.specs.ChoiceLaws.{either}
 use Rattle.text.specs.declared.Number.{Number}
 use Rattle.text.specs.declared.Number.the-variants.{Of, Not}
-use Rattle.text.specs.Text.{same, until, behind, place, wordsFrom, wordAt, decimal, numberAs, orZero, fitting, UnhexAllows}
+use Rattle.text.specs.Text.{same, until, behind, place, wordsFrom, wordAt, decimal, numberAs, orZero, UnhexAllows}
 
 -- ---- the same text is the same list
 
@@ -75,6 +74,22 @@ at-stop stop (c ∷ s) h = turn (eqb c stop) refl h (at-stop stop s)
         → c ∷ s ≡ cond b [] (c ∷ until stop s) ++ stop ∷ cond b s (behind stop s)
     turn true e h rest = ap {B = List ℕ} (λ x. x ∷ s) (eqb-true c stop e)
     turn false e h rest = ap {B = List ℕ} (λ l. c ∷ l) (rest (omega arith))
+
+until-le : (stop : ℕ) (s : List ℕ) → length (until stop s) ≤ length s
+unfolding until
+until-le stop [] = omega arith
+until-le stop (c ∷ s) =
+    let rest = until-le stop s in
+    either (λ (l : List ℕ). length l ≤ suc (length s)) (eqb c stop) [] (c ∷ until stop s) (λ e. omega arith) (λ e. omega arith)
+
+-- a place within the text, not before the one searched from
+pub place-le : (s : List ℕ) (from stop : ℕ) → place s from stop ≤ length s
+unfolding place
+place-le s from stop = omega (arith, until-le stop (drop from s), length-drop from s)
+
+pub place-ge : (s : List ℕ) (from stop : ℕ) → from ≤ length s → from ≤ place s from stop
+unfolding place
+place-ge s from stop h = omega arith
 
 pub first-word : (w rest : List ℕ) → Free 32 w → wordAt 0 (w ++ 32 ∷ rest) ≡ w
 unfolding wordAt wordsFrom
