@@ -65,7 +65,11 @@ fn answer(desk: Desk, image: &mut [u8], staging: &mut [u8], line: &[u8]) -> Desk
         }
         Call::OpenReader => {
             let size = text::unhex(text::word(line, 2), image);
-            with_reader(desk, reader::open_line(text::first(image, size), line), size)
+            with_reader(
+                desk,
+                reader::open_line(text::first(image, size), line),
+                size,
+            )
         }
         Call::Reader(call) => {
             let r = desk.reader;

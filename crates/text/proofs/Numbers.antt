@@ -23,7 +23,7 @@ shift : (n c : ℕ) (s : List ℕ) → n * 10 ^ length (c ∷ s) + value (c ∷ 
 unfolding value
 shift n c s =
     rw (pow-succ' 10 (length s), ← mul-assoc n 10 (10 ^ length s), add-mul (n * 10) (c - 48) (10 ^ length s))
-      (sym (add-assoc (n * 10 * 10 ^ length s) ((c - 48) * 10 ^ length s) (value s)))
+    (sym (add-assoc (n * 10 * 10 ^ length s) ((c - 48) * 10 ^ length s) (value s)))
 
 from-digit : (n c : ℕ) (s : List ℕ) → isDigit c ≡ true → decimalFrom n (c ∷ s) ≡ decimalFrom (n * 10 + (c - 48)) s
 unfolding decimalFrom allDigits

@@ -12,7 +12,7 @@ use Rattle.lists.specs.Lay.{lay}
 use Rattle.text.specs.declared.Number.{Number}
 use Rattle.text.specs.declared.Number.the-variants.{Of, Not}
 
--- ---- the same text
+-- ---- the same text: as long, and the same byte at each place
 
 unfoldable pub same : List ℕ → List ℕ → Bool
 same [] [] = true
@@ -57,7 +57,7 @@ unfoldable pub allDigits : List ℕ → Bool
 allDigits [] = true
 allDigits (c ∷ s) = isDigit c && allDigits s
 
--- what digits stand for, the highest first
+-- what digits stand for: each weighs ten times what the one behind it weighs
 unfoldable pub value : List ℕ → ℕ
 value [] = 0
 value (c ∷ s) = (c - 48) * 10 ^ length s + value s
@@ -70,6 +70,7 @@ abbrev pub numberAs : Number → Option ℕ
 numberAs (Of n) = some n
 numberAs Not = none
 
+-- the number, 0 where there is none
 abbrev pub orZero : Option ℕ → ℕ
 orZero (some n) = n
 orZero none = 0

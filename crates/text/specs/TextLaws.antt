@@ -2,9 +2,11 @@
 use mathlib.Core.Path.{_≡_, refl, ap, sym, _∙_}
 use mathlib.Core.Bool.{Bool, true, false, cond}
 use mathlib.Core.List.{List, [], _∷_, _++_}
-use Prim.Native.Nat.{ℕ, suc, _≤_, _<_}
+use Prim.Native.Nat.{ℕ, suc, _+_, _-_, _*_, _^_, _≤_, _<_}
+use native.Mathlib.Nat.{mul-assoc, pow-suc}
+use native.Mathlib.Numerals.{add-one}
 use native.Mathlib.Omega.{arith}
-use lib.ListN.{length, take, drop, length-drop}
+use lib.ListN.{length, take, drop, length-append, length-drop}
 use lib.Dec.{eqb}
 use borrow.Author.Tests.{eqb-true, eqb-false, eq-eqb, ne-eqb}
 use Rattle.lists.specs.All.{All}
@@ -12,7 +14,7 @@ use Rattle.lists.specs.AnswersLaws.{both}
 use Rattle.lists.specs.ChoiceLaws.{either}
 use Rattle.text.specs.declared.Number.{Number}
 use Rattle.text.specs.declared.Number.the-variants.{Of, Not}
-use Rattle.text.specs.Text.{same, until, behind, place, wordsFrom, wordAt, decimal, numberAs, orZero, UnhexAllows}
+use Rattle.text.specs.Text.{same, until, behind, place, wordsFrom, wordAt, value, decimal, numberAs, orZero, UnhexAllows}
 
 -- ---- the same text is the same list
 
@@ -102,6 +104,15 @@ only-word w h = until-none 32 w h
 pub next-word : (k : ℕ) (w rest : List ℕ) → Free 32 w → wordAt (suc k) (w ++ 32 ∷ rest) ≡ wordAt k rest
 unfolding wordAt wordsFrom
 next-word k w rest h = rw (behind-stop 32 w rest h)
+
+-- ---- a digit more makes ten times the number and the digit
+
+pub value-more : (s : List ℕ) (c : ℕ) → value (s ++ (c ∷ [])) ≡ value s * 10 + (c - 48)
+unfolding value
+value-more [] c = omega arith
+value-more (d ∷ s) c =
+    rw (value-more s c, length-append s (c ∷ []), add-one (length s), pow-suc 10 (length s), ← mul-assoc (d - 48) (10 ^ length s) 10)
+    (omega arith)
 
 -- ---- any two answers that a promise allows are equal
 
