@@ -22,6 +22,10 @@ same (x ∷ a) (y ∷ b) = eqb x y && same a b
 
 -- ---- parts of a text
 
+-- the first n bytes, or as many as there are
+abbrev pub first : ℕ → List ℕ → List ℕ
+first n s = take n s
+
 -- what stands before the first stop; all of it where there is none
 unfoldable pub until : (stop : ℕ) → List ℕ → List ℕ
 until stop [] = []

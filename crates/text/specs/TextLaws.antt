@@ -6,7 +6,7 @@ use Prim.Native.Nat.{ℕ, suc, _+_, _-_, _*_, _^_, _≤_, _<_}
 use native.Mathlib.Nat.{mul-assoc, pow-suc}
 use native.Mathlib.Numerals.{add-one}
 use native.Mathlib.Omega.{arith}
-use lib.ListN.{length, take, drop, length-append, length-drop}
+use lib.ListN.{length, drop, length-append, length-drop}
 use lib.Dec.{eqb}
 use borrow.Author.Tests.{eqb-true, eqb-false, eq-eqb, ne-eqb}
 use Rattle.lists.specs.All.{All}
@@ -14,7 +14,7 @@ use Rattle.lists.specs.AnswersLaws.{both}
 use Rattle.lists.specs.ChoiceLaws.{either}
 use Rattle.text.specs.declared.Number.{Number}
 use Rattle.text.specs.declared.Number.the-variants.{Of, Not}
-use Rattle.text.specs.Text.{same, until, behind, place, wordsFrom, wordAt, value, decimal, numberAs, orZero, UnhexAllows}
+use Rattle.text.specs.Text.{first, same, until, behind, place, wordsFrom, wordAt, value, decimal, numberAs, orZero, UnhexAllows}
 
 -- ---- the same text is the same list
 
@@ -116,7 +116,7 @@ value-more (d ∷ s) c =
 
 -- ---- any two answers that a promise allows are equal
 
-pub first-one-answer : (s : List ℕ) (n : ℕ) (r r′ : List ℕ) → r ≡ take n s → r′ ≡ take n s → r ≡ r′
+pub first-one-answer : (s : List ℕ) (n : ℕ) (r r′ : List ℕ) → r ≡ first n s → r′ ≡ first n s → r ≡ r′
 first-one-answer s n r r′ x y = x ∙ sym y
 
 pub same-one-answer : (a b : List ℕ) (r r′ : Bool) → r ≡ same a b → r′ ≡ same a b → r ≡ r′
