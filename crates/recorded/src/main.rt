@@ -5,6 +5,7 @@
 // of it was written by this port. The file stdin is the list with everything from ` = ` on cut off each line, the file stdout what stands behind ` = `:
 // one `sed` each (`s/ = .*//` and `s/.* = //`).
 ghost use mathlib.Core.Path.{_≡_};
+ghost use Prim.Native.Nat.{_≤_};
 ghost use lib.ListN.{length};
 
 mod answers;
@@ -65,7 +66,11 @@ fn answer(desk: Desk, image: &mut [u8], staging: &mut [u8], line: &[u8]) -> Desk
         }
         Call::OpenReader => {
             let size = text::unhex(text::word(line, 2), image);
-            with_reader(desk, reader::open_line(&image[..size], line), size)
+            with_reader(
+                desk,
+                reader::open_line(text::first(image, size), line),
+                size,
+            )
         }
         Call::Reader(call) => {
             let r = desk.reader;
@@ -85,12 +90,20 @@ fn answer(desk: Desk, image: &mut [u8], staging: &mut [u8], line: &[u8]) -> Desk
     }
 }
 
+// Where the line that begins at `at` ends: before its line feed, or at the list's end.
+fn line_end(list: &[u8], at: usize) -> usize
+    requires { ⌜ at ≤ length (now list) ⌝ }
+    ensures { λ r. ⌜ (at ≤ r) × (r ≤ length (now (list .entry))) ⌝ }
+{
+    text::find(list, at, b'\n')
+}
+
 // Answers line by line.
 fn replay(list: &[u8], image: &mut [u8], staging: &mut [u8]) {
     let mut desk = closed();
     let mut at = 0;
     while at < list.len() {
-        let end = text::find(list, at, b'\n');
+        let end = line_end(list, at);
         desk = answer(desk, image, staging, &list[at..end]);
         at = end + 1;
     }

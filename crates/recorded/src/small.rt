@@ -47,7 +47,7 @@ fn put_position(no: u8, position: LogPosition) {
 fn get(line: &[u8]) {
     let mut bytes = [0u8; 32];
     let n = text::unhex(text::word(line, 1), &mut bytes);
-    match LogPosition::deserialize_from(&bytes[..n]) {
+    match LogPosition::deserialize_from(text::first(&bytes, n)) {
         Deserialized::Position(position) => put_position(0, position),
         Deserialized::Refused(no) => put_position(
             no,
@@ -63,6 +63,6 @@ fn get(line: &[u8]) {
 fn sum(line: &[u8]) {
     let mut bytes = [0u8; 128];
     let n = text::unhex(text::word(line, 2), &mut bytes);
-    let sum = crc32c::append(answers::number32(line, 1), &bytes[..n]);
+    let sum = crc32c::append(answers::number32(line, 1), text::first(&bytes, n));
     io::print_decimal(STDOUT_FILENO, sum as u64);
 }

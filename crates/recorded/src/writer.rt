@@ -90,7 +90,7 @@ fn open(image: &mut [u8], staging: &mut [u8], line: &[u8]) -> Turn {
     plain(opening::open(
         answers::number(line, 1),
         last_of(answers::number(line, 2), answers::number(line, 3)),
-        &info[..v],
+        text::first(&info, v),
         answers::number(line, 4),
         answers::number(line, 5),
         answers::number(line, 6),
@@ -140,7 +140,7 @@ fn called(
 fn write(w: LogFileWriter, image: &mut [u8], staging: &mut [u8], line: &[u8]) -> Turn {
     let mut bytes = [0u8; 256];
     let n = text::unhex(text::word(line, 1), &mut bytes);
-    written(entries::write(w, image, staging, &bytes[..n]))
+    written(entries::write(w, image, staging, text::first(&bytes, n)))
 }
 
 fn seek(w: LogFileWriter, image: &[u8], staging: &[u8], from: SeekFrom) -> Turn {

@@ -1,25 +1,21 @@
 -- A number read digit by digit: what one byte more makes of it, and where it ends.
 use mathlib.Core.Path.{_≡_, refl, sym, ap, _∙_}
-use mathlib.Core.Bool.{Bool, true, false, cond, _&&_}
+use mathlib.Core.Bool.{Bool, true, false, and-false}
 use mathlib.Core.List.{List, [], _∷_}
 use mathlib.Core.Option.{Option, none, some}
-use Prim.Native.Nat.{ℕ, zero, suc, _+_, _-_, _*_, _^_, _≤_, _<_}
+use Prim.Native.Nat.{ℕ, suc, _+_, _-_, _*_, _^_, _≤_, _<_}
 use native.Mathlib.Nat.{add-assoc, add-mul, mul-assoc, pow-succ', zero-mul, zero-add, le-mul-of-pos-right, one-le-pow}
 use native.Mathlib.Numerals.{add-one}
 use native.Mathlib.Omega.{arith}
 use lib.ListN.{length, getD, drop, drop-of-length-le}
 use lib.Seq.{drop-cons}
-use lib.Dec.{leb, ltb, lit<}
-use borrow.Author.Tests.{le-leb, lt-leb, lt-ltb, le-ltb, ltb-true, ltb-false}
+use lib.Dec.{ltb, lit<}
+use borrow.Author.Tests.{lt-ltb, le-ltb, ltb-true, ltb-false}
 use Rattle.text.specs.Text.{isDigit, allDigits, value, decimal, numberAs, orZero}
 use Rattle.text.specs.declared.Number.{Number}
 use Rattle.text.specs.declared.Number.the-variants.{Of, Not}
 use Rattle.text.specs.Digits.{decimalFrom}
 use Rattle.text.proofs.Ranges.{digit, no-digit}
-
-and-false : (b : Bool) → (b && false) ≡ false
-and-false true = refl
-and-false false = refl
 
 -- ---- a digit more
 
@@ -27,7 +23,7 @@ shift : (n c : ℕ) (s : List ℕ) → n * 10 ^ length (c ∷ s) + value (c ∷ 
 unfolding value
 shift n c s =
     rw (pow-succ' 10 (length s), ← mul-assoc n 10 (10 ^ length s), add-mul (n * 10) (c - 48) (10 ^ length s))
-      (sym (add-assoc (n * 10 * 10 ^ length s) ((c - 48) * 10 ^ length s) (value s)))
+    (sym (add-assoc (n * 10 * 10 ^ length s) ((c - 48) * 10 ^ length s) (value s)))
 
 from-digit : (n c : ℕ) (s : List ℕ) → isDigit c ≡ true → decimalFrom n (c ∷ s) ≡ decimalFrom (n * 10 + (c - 48)) s
 unfolding decimalFrom allDigits

@@ -1,10 +1,10 @@
 -- Bytes from pairs of hex digits: how many there are, which stands at a place, and one turn of the loop that stores them.
-use mathlib.Core.Path.{_≡_, refl, sym, ap, _∙_}
+use mathlib.Core.Path.{_≡_, refl, _∙_}
 use mathlib.Core.List.{List, [], _∷_}
 use Prim.Native.Nat.{ℕ, zero, suc, _+_, _*_, _/_, _≤_, _<_, min}
 use native.Mathlib.Numerals.{add-one}
 use native.Mathlib.Omega.{arith}
-use lib.ListN.{length, getD, take, drop, set, length-take, drop-of-length-le}
+use lib.ListN.{length, getD, drop, set, length-take, drop-of-length-le}
 use lib.Seq.{drop-cons, getD-take}
 use Rattle.lists.specs.Lay.{lay}
 use Rattle.text.specs.Text.{hexDigit, unhexed, fitting}

@@ -6,8 +6,8 @@ use Prim.Native.Nat.{ℕ, zero, suc, _+_, _-_, _≤_, _<_, min}
 use native.Mathlib.Nat.{zero-min, min-zero, suc-min-suc, add-zero, add-suc}
 use native.Mathlib.Numerals.{add-one}
 use native.Mathlib.Omega.{arith}
-use lib.ListN.{length, getD, take, drop, length-drop, drop-of-length-le}
-use lib.Seq.{drop-drop, drop-cons, take-all}
+use lib.ListN.{length, getD, take, drop, drop-of-length-le}
+use lib.Seq.{drop-drop, drop-cons}
 use lib.Dec.{eqb}
 use borrow.Author.Tests.{eq-eqb, ne-eqb}
 use Rattle.lists.specs.ChoiceLaws.{either}
@@ -31,13 +31,6 @@ drop-min-length (suc n) (x ∷ s) = rw (suc-min-suc, drop-min-length n s)
 -- ---- up to the stop and behind it
 
 module _ (stop : ℕ) where
-  until-le : (s : List ℕ) → length (until stop s) ≤ length s
-  unfolding until
-  until-le [] = omega arith
-  until-le (c ∷ s) =
-      let rest = until-le s in
-      either (λ (l : List ℕ). length l ≤ suc (length s)) (eqb c stop) [] (c ∷ until stop s) (λ e. omega arith) (λ e. omega arith)
-
   pub take-until : (s : List ℕ) → take (length (until stop s)) s ≡ until stop s
   unfolding until
   take-until [] = refl
@@ -75,13 +68,6 @@ module _ (stop : ℕ) where
   ends s i h p = rw (drop-of-length-le s h, add-zero) at p
 
   -- ---- the place of the stop
-
-  pub place-le : (s : List ℕ) (from : ℕ) → place s from stop ≤ length s
-  place-le s from = omega (arith, begins s from (min from (length s)) refl, until-le (drop (min from (length s)) s), length-drop (min from (length s)) s)
-
-  pub place-ge : (s : List ℕ) (from : ℕ) → from ≤ length s → from ≤ place s from stop
-  unfolding place
-  place-ge s from h = omega arith
 
   pub behind-place : (s : List ℕ) (from end : ℕ) → end ≡ place s from stop → drop (end + 1) s ≡ behind stop (drop from s)
   behind-place s from end e =

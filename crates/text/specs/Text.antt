@@ -12,7 +12,7 @@ use Rattle.lists.specs.Lay.{lay}
 use Rattle.text.specs.declared.Number.{Number}
 use Rattle.text.specs.declared.Number.the-variants.{Of, Not}
 
--- ---- the same text
+-- ---- the same text: as long, and the same byte at each place
 
 unfoldable pub same : List ℕ → List ℕ → Bool
 same [] [] = true
@@ -21,6 +21,10 @@ same (x ∷ a) [] = false
 same (x ∷ a) (y ∷ b) = eqb x y && same a b
 
 -- ---- parts of a text
+
+-- the first n bytes, or as many as there are
+abbrev pub first : ℕ → List ℕ → List ℕ
+first n s = take n s
 
 -- what stands before the first stop; all of it where there is none
 unfoldable pub until : (stop : ℕ) → List ℕ → List ℕ
@@ -57,7 +61,7 @@ unfoldable pub allDigits : List ℕ → Bool
 allDigits [] = true
 allDigits (c ∷ s) = isDigit c && allDigits s
 
--- what digits stand for, the highest first
+-- what digits stand for: each weighs ten times what the one behind it weighs
 unfoldable pub value : List ℕ → ℕ
 value [] = 0
 value (c ∷ s) = (c - 48) * 10 ^ length s + value s
@@ -70,6 +74,7 @@ abbrev pub numberAs : Number → Option ℕ
 numberAs (Of n) = some n
 numberAs Not = none
 
+-- the number, 0 where there is none
 abbrev pub orZero : Option ℕ → ℕ
 orZero (some n) = n
 orZero none = 0

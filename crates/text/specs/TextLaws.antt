@@ -2,18 +2,19 @@
 use mathlib.Core.Path.{_≡_, refl, ap, sym, _∙_}
 use mathlib.Core.Bool.{Bool, true, false, cond}
 use mathlib.Core.List.{List, [], _∷_, _++_}
-use mathlib.Core.Option.{Option, none, some}
-use Prim.Native.Nat.{ℕ, zero, suc, _+_, _≤_, _<_, _^_}
+use Prim.Native.Nat.{ℕ, suc, _+_, _-_, _*_, _^_, _≤_, _<_}
+use native.Mathlib.Nat.{mul-assoc, pow-suc}
+use native.Mathlib.Numerals.{add-one}
 use native.Mathlib.Omega.{arith}
-use lib.ListN.{length, getD, take, drop}
-use lib.Dec.{eqb, ltb}
+use lib.ListN.{length, drop, length-append, length-drop}
+use lib.Dec.{eqb}
 use borrow.Author.Tests.{eqb-true, eqb-false, eq-eqb, ne-eqb}
 use Rattle.lists.specs.All.{All}
 use Rattle.lists.specs.AnswersLaws.{both}
 use Rattle.lists.specs.ChoiceLaws.{either}
 use Rattle.text.specs.declared.Number.{Number}
 use Rattle.text.specs.declared.Number.the-variants.{Of, Not}
-use Rattle.text.specs.Text.{same, until, behind, place, wordsFrom, wordAt, decimal, numberAs, orZero, fitting, UnhexAllows}
+use Rattle.text.specs.Text.{first, same, until, behind, place, wordsFrom, wordAt, value, decimal, numberAs, orZero, UnhexAllows}
 
 -- ---- the same text is the same list
 
@@ -76,6 +77,22 @@ at-stop stop (c ∷ s) h = turn (eqb c stop) refl h (at-stop stop s)
     turn true e h rest = ap {B = List ℕ} (λ x. x ∷ s) (eqb-true c stop e)
     turn false e h rest = ap {B = List ℕ} (λ l. c ∷ l) (rest (omega arith))
 
+until-le : (stop : ℕ) (s : List ℕ) → length (until stop s) ≤ length s
+unfolding until
+until-le stop [] = omega arith
+until-le stop (c ∷ s) =
+    let rest = until-le stop s in
+    either (λ (l : List ℕ). length l ≤ suc (length s)) (eqb c stop) [] (c ∷ until stop s) (λ e. omega arith) (λ e. omega arith)
+
+-- a place within the text, not before the one searched from
+pub place-le : (s : List ℕ) (from stop : ℕ) → place s from stop ≤ length s
+unfolding place
+place-le s from stop = omega (arith, until-le stop (drop from s), length-drop from s)
+
+pub place-ge : (s : List ℕ) (from stop : ℕ) → from ≤ length s → from ≤ place s from stop
+unfolding place
+place-ge s from stop h = omega arith
+
 pub first-word : (w rest : List ℕ) → Free 32 w → wordAt 0 (w ++ 32 ∷ rest) ≡ w
 unfolding wordAt wordsFrom
 first-word w rest h = until-stop 32 w rest h
@@ -88,9 +105,18 @@ pub next-word : (k : ℕ) (w rest : List ℕ) → Free 32 w → wordAt (suc k) (
 unfolding wordAt wordsFrom
 next-word k w rest h = rw (behind-stop 32 w rest h)
 
+-- ---- a digit more makes ten times the number and the digit
+
+pub value-more : (s : List ℕ) (c : ℕ) → value (s ++ (c ∷ [])) ≡ value s * 10 + (c - 48)
+unfolding value
+value-more [] c = omega arith
+value-more (d ∷ s) c =
+    rw (value-more s c, length-append s (c ∷ []), add-one (length s), pow-suc 10 (length s), ← mul-assoc (d - 48) (10 ^ length s) 10)
+    (omega arith)
+
 -- ---- any two answers that a promise allows are equal
 
-pub first-one-answer : (s : List ℕ) (n : ℕ) (r r′ : List ℕ) → r ≡ take n s → r′ ≡ take n s → r ≡ r′
+pub first-one-answer : (s : List ℕ) (n : ℕ) (r r′ : List ℕ) → r ≡ first n s → r′ ≡ first n s → r ≡ r′
 first-one-answer s n r r′ x y = x ∙ sym y
 
 pub same-one-answer : (a b : List ℕ) (r r′ : Bool) → r ≡ same a b → r′ ≡ same a b → r ≡ r′

@@ -1,14 +1,14 @@
-// internal: what programs read words by: the same text, words of a line, numbers in decimal, bytes as pairs of hex digits. Every function answers any bytes.
+// What programs read words by: the same text, words of a line, numbers in decimal, bytes as pairs of hex digits. Every function answers any bytes.
 ghost use mathlib.Core.Path.{_≡_};
 ghost use mathlib.Core.List.{[], _∷_};
 ghost use Prim.Native.Nat.{_≤_};
-ghost use lib.ListN.{length, take, drop};
-ghost use Rattle.text.specs.Text.{same, behind, place, wordsFrom, wordAt, decimal, numberAs, orZero, hexDigit, UnhexAllows};
+ghost use lib.ListN.{length, drop};
+ghost use Rattle.text.specs.Text.{first, same, behind, place, wordsFrom, wordAt, decimal, numberAs, orZero, hexDigit, UnhexAllows};
 ghost use Rattle.text.specs.Digits.{decimalFrom};
 
 // The first n bytes, or as many as there are.
 pub fn first(s: &[u8], n: usize) -> &[u8]
-    ensures { λ r. ⌜ now r ≡ take n (now (s .entry)) ⌝ }
+    ensures { λ r. ⌜ now r ≡ first n (now (s .entry)) ⌝ }
 {
     let k = lists::smaller(n, s.len());
     &s[..k]

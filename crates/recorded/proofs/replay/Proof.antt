@@ -19,8 +19,8 @@ closed-requires c κs = search needs
 loop-holds : tie.Need-loop-holds Inv-loop μ-loop
 loop-holds c = (omega arith, refl, refl)
 
-find-requires : tie.Need-find-requires Inv-loop μ-loop
-find-requires c κs = omega arith
+line-end-requires : tie.Need-line-end-requires Inv-loop μ-loop
+line-end-requires c κs = omega arith
 
 sub-answer : tie.Need-sub-answer Inv-loop μ-loop
 sub-answer c = omega arith
@@ -60,7 +60,7 @@ replay-spec =
     μ-loop
     closed-requires
     loop-holds
-    find-requires
+    line-end-requires
     sub-answer
     part-answer-start
     part-answer-end

@@ -63,12 +63,11 @@ loop-again c =
     let l = c .before .before .before .before .before .loop in
     let n = c .before .before .before .before .before .before .smaller in
     let a = c .before .before .before .before .before .before .before .before .before .args in
-    let all = as-many (a .s .now) (a .out .now) (n .result) (n .ensures) in
-    (
+    let all = as-many (a .s .now) (a .out .now) (n .result) (n .ensures) in (
       omega arith,
       simp length-set (l .inv .1),
       goes-on (a .s .now) (a .out .now) (l .out) (l .i) (l .inv .2) (c .before .before .nibble .result) (c .nibble2 .result) (omega arith)
-        (c .before .before .nibble .ensures .0) (c .nibble2 .ensures .0),
+          (c .before .before .nibble .ensures .0) (c .nibble2 .ensures .0),
     )
 
 same-length : tie.Need-same-length Inv-loop μ-loop

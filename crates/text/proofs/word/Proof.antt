@@ -1,7 +1,8 @@
 -- From where the word begins up to the next space.
 use native.Mathlib.Omega.{arith}
 use borrow.Author.Needs.{needs}
-use Rattle.text.proofs.Places.{place-le, place-ge, word-of}
+use Rattle.text.specs.TextLaws.{place-le, place-ge}
+use Rattle.text.proofs.Places.{word-of}
 use Rattle.text.proofs.word.Statement.{statement}
 use Rattle.text.proofs.word.Tie as tie
 
@@ -12,13 +13,13 @@ find-requires : tie.Need-find-requires
 find-requires c κs = search needs
 
 sub-result : tie.Need-sub-result
-sub-result c = let a = c .before .before .before .args in omega (arith, place-ge 32 (a .line .now) (c .before .word-start .result) (c .before .word-start .ensures .0))
+sub-result c = let a = c .before .before .before .args in omega (arith, place-ge (a .line .now) (c .before .word-start .result) 32 (c .before .word-start .ensures .0))
 
 part-result-start : tie.Need-part-result-start
-part-result-start c = let a = c .before .before .before .args in omega (arith, place-ge 32 (a .line .now) (c .before .word-start .result) (c .before .word-start .ensures .0))
+part-result-start c = let a = c .before .before .before .args in omega (arith, place-ge (a .line .now) (c .before .word-start .result) 32 (c .before .word-start .ensures .0))
 
 part-result-end : tie.Need-part-result-end
-part-result-end c = let a = c .before .before .before .args in omega (arith, place-le 32 (a .line .now) (c .before .word-start .result))
+part-result-end c = let a = c .before .before .before .args in omega (arith, place-le (a .line .now) (c .before .word-start .result) 32)
 
 returns : tie.Need-returns
 returns c =
