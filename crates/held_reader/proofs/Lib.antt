@@ -1,4 +1,5 @@
 pub mod Taken
+pub mod Parts
 pub mod Asked
 pub mod Anew
 pub mod AnewAsked

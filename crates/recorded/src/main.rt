@@ -80,7 +80,7 @@ fn answer(desk: Desk, image: &mut [u8], staging: &mut [u8], line: &[u8]) -> Desk
         }
         Call::First(call) => {
             let size = text::unhex(text::word(line, 2), image);
-            first::line(call, &image[..size], line);
+            first::line(call, text::first(image, size), line);
             desk
         }
         Call::Small(call) => {
