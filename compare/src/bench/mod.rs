@@ -89,6 +89,20 @@ fn sums() {
     let bytes: Vec<u8> = (0..LARGEST).map(|at| (at * 7) as u8).collect();
     let found = pair(|| crc32c::crc32c(black_box(&bytes)), || library::crc32c_append(0, black_box(&bytes)));
     row("the sum alone, 1 MiB", &found, LARGEST);
+    let found = pair(
+        || pieces(&bytes, |sum, piece| crc32c::crc32c_append(sum, piece)),
+        || pieces(&bytes, |sum, piece| library::crc32c_append(sum, piece)),
+    );
+    row("the same in pieces of 64 bytes, each continued", &found, LARGEST);
+    let found = pair(
+        || pieces(&bytes, |sum, piece| sum ^ crc32c::crc32c(piece)),
+        || pieces(&bytes, |sum, piece| sum ^ library::crc32c_append(0, piece)),
+    );
+    row("the same in pieces of 64 bytes, each begun anew", &found, LARGEST);
+}
+
+fn pieces(bytes: &[u8], next: impl Fn(u32, &[u8]) -> u32) -> u32 {
+    black_box(bytes).chunks(64).fold(0, |sum, piece| next(sum, piece))
 }
 
 fn row(name: &str, found: &Pair, bytes: usize) {
