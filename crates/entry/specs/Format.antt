@@ -34,3 +34,7 @@ entry e = 1 ∷ le 8 (e .id) ++ (flatMap chunk (e .chunks) ++ (3 ∷ []))
 
 unfoldable pub segment : (info : List ℕ) (entries : List Entry) → List ℕ
 segment info entries = header info ++ flatMap entry entries
+
+-- the largest image that holds one (document 01, "Ranges (12)")
+abbrev pub largestImage : ℕ
+largestImage = 1048576

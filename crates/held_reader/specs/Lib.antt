@@ -1,2 +1,3 @@
+-- What each call promises, then that a promise allows one answer.
 pub mod Held
 pub mod HeldLaws

@@ -1,1 +1,2 @@
+-- The theorems on concrete runs.
 pub mod Instances

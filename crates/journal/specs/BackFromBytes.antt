@@ -5,14 +5,13 @@ use Prim.Native.Nat.{ℕ, _≤_}
 use mathlib.Core.Path.{_≡_, ap, sym, _∙_, subst}
 use mathlib.Core.List.{List, _++_, append-nil}
 use lib.ListN.{length, take, replicate}
-use Rattle.entry.specs.Format.{Entry, segment}
+use Rattle.entry.specs.Format.{Entry, segment, largestImage}
 use Rattle.log_file.specs.declared.Answer.the-variants.{Accepted}
 use Rattle.log_file.specs.State.{Machine, position}
 use Rattle.log_file.specs.Opening.{Terms}
 use Rattle.log_file.specs.History.{fresh}
 use Rattle.segment_reader.specs.declared.survey.SegmentRead.{SegmentRead}
 use Rattle.segment_reader.specs.declared.survey.SegmentRead.the-variants.{Read}
-use Rattle.segment_reader.specs.State.{most}
 use Rattle.segment_reader.specs.Driver.{ReadSegmentAllows}
 use Rattle.segment_reader.specs.RoundTrip.{round-trip-zeros}
 use Rattle.segment_reader.specs.ReadBack.{read-back}
@@ -28,7 +27,7 @@ segment-back : (m : Machine) (info : List ℕ) (es : List Entry) → HoldsSegmen
 segment-back m info es k before a after x =
     let file = m .writer .id in
     let e : take (position (m .writer)) (m .image) ≡ segment info es ++ replicate 0 0 = k .image ∙ sym (append-nil (segment info es)) in
-    let l : length (segment info es ++ replicate 0 0) ≤ most = rw append-nil (subst (λ n. n ≤ most) (k .ends) (k .small)) in
+    let l : length (segment info es ++ replicate 0 0) ≤ largestImage = rw append-nil (subst (λ n. n ≤ largestImage) (k .ends) (k .small)) in
     let b = read-back file info es 0 (k .readable) l before a after (rw e at x) in
     record {
       answer = b .0 ∙ ap (λ n. Read (length es) (length es) n) (sym (k .ends));

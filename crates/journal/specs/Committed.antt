@@ -4,7 +4,7 @@ use Prim.Native.Nat.{ℕ, _+_, _≤_}
 use mathlib.Core.Path.{_≡_}
 use mathlib.Core.List.{List, [], _∷_}
 use lib.ListN.{length, take}
-use Rattle.entry.specs.Format.{Entry, segment}
+use Rattle.entry.specs.Format.{Entry, segment, largestImage}
 use Rattle.log_file.specs.declared.Moment.the-variants.{Idle}
 use Rattle.log_file.specs.State.{Machine, position}
 use Rattle.log_file.specs.Calls.{Call}
@@ -43,7 +43,7 @@ pub record AtRest (m : Machine) : Type 0 where
 pub record HoldsSegment (m : Machine) (info : List ℕ) (entries : List Entry) : Type 0 where
   pub image : take (position (m .writer)) (m .image) ≡ segment info entries
   pub ends : position (m .writer) ≡ length (segment info entries)
-  pub small : position (m .writer) ≤ 1048576
+  pub small : position (m .writer) ≤ largestImage
   pub readable : All (Writable (m .writer .id)) entries
 
 -- what `read_segment`, given an image, answered (a) and recorded (`after`, where `before` stood) gives these entries back: it met exactly them, all

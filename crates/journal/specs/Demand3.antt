@@ -8,6 +8,7 @@ use mathlib.Core.List.{List, [], _∷_}
 use lib.ListN.{length}
 use lib.Dec.{ltb}
 use Rattle.lists.specs.Answers.{Answer, numberOf, Check, _⇒_, first, reply}
+use Rattle.entry.specs.Format.{largestImage}
 use Rattle.log_file.specs.State.{Machine}
 use Rattle.log_file.specs.Calls.{Call, Called, called}
 use Rattle.log_file.specs.Opening.{Terms, opened}
@@ -73,7 +74,7 @@ pub record TwoRunHalf (p : Program) : Type 0 where
 -- an info, 5 where the preallocation or the fresh segment exceeds the image (at L = 0, padded is the preallocation)
 abbrev pub openingCauses : (n : ℕ) → Terms → List Check
 openingCauses n o =
-    (ltb 1048576 n ⇒ 12) ∷ (ltb (o .preallocate) 1 ⇒ 12) ∷ (ltb 4294967295 (o .preallocate) ⇒ 12) ∷ (ltb 255 (length (o .info)) ⇒ 4)
+    (ltb largestImage n ⇒ 12) ∷ (ltb (o .preallocate) 1 ⇒ 12) ∷ (ltb 4294967295 (o .preallocate) ⇒ 12) ∷ (ltb 255 (length (o .info)) ⇒ 4)
     ∷ (ltb n (o .preallocate) ⇒ 5) ∷ (crowds n (fresh (o .info) (o .id) (o .last)) ⇒ 5) ∷ []
 
 abbrev pub openingTold : (n : ℕ) → Terms → Answer

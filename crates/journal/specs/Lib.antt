@@ -1,3 +1,4 @@
+-- In order: one step; demand 3, of any program and of the code; programs that fall to it; document 01's cases; entries committed, and back from bytes.
 pub mod Step
 pub mod StepLaws
 pub mod Stories

@@ -1,5 +1,6 @@
 -- What one call of `step` may answer and leave: `called` of the call that it names, with the reply in document 01's terms. The laws are in `StepLaws`.
 use Prim.Native.Nat.{ℕ}
+use mathlib.Core.Path.{_≡_}
 use mathlib.Core.List.{List, [], _∷_}
 use Rattle.lists.specs.Answers.{Answer, accepted, refused}
 use Rattle.log_file.specs.declared.LogFileWriter.{LogFileWriter}
@@ -31,6 +32,11 @@ repliedAs (One a) = accepted (a ∷ [])
 repliedAs (Two a b) = accepted (a ∷ b ∷ [])
 repliedAs (Four a b c d) = accepted (a ∷ b ∷ c ∷ d ∷ [])
 repliedAs (Refused n) = refused n
+
+-- a step hands on a call's answer and writer
+pub record Conveys (r : Stepped) (a : Answer) (w : LogFileWriter) : Type 0 where
+  pub reply : repliedAs (r .answer) ≡ a
+  pub writer′ : r .writer ≡ w
 
 abbrev pub StepAllows : LogFileWriter → (image staging : List ℕ) → Call → (bytes : List ℕ) → Stepped → (image′ staging′ : List ℕ) → Type 0
 StepAllows w image staging call bytes r image′ staging′ =

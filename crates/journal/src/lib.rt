@@ -1,15 +1,18 @@
 // One call of a writer, by name: what a program that keeps a list of calls makes of them. The theorems of this crate speak of what `step` promises.
-ghost use mathlib.Core.Path.{_≡_};
 ghost use Rattle.log_file.specs.Promises.{answeredAs, writtenAs, finishedAs, committedAs};
 ghost use Rattle.buffered.specs.Seek.{landedAs};
-ghost use Rattle.journal.specs.Step.{repliedAs, StepAllows};
+ghost use Rattle.journal.specs.Step.{Conveys, StepAllows};
 use buffered::seek::Landing;
 use buffered::seek::SeekFrom;
 use log_file::Answer;
+use log_file::Answered;
 use log_file::LogFileWriter;
 use log_file::entries::CommitAnswer;
+use log_file::entries::Committed;
 use log_file::entries::FinishAnswer;
+use log_file::entries::Finished;
 use log_file::entries::WriteAnswer;
+use log_file::entries::Written;
 
 // A piece's bytes are lent beside the call.
 pub enum Call {
@@ -40,30 +43,38 @@ pub struct Stepped {
     pub answer: Reply,
 }
 
-// ---- each call's own answer, as a reply
+// ---- each call's own result, as a step
 
-fn plain(a: Answer) -> Reply
-    ensures { λ r. ⌜ repliedAs r ≡ answeredAs a ⌝ }
+fn answered(r: Answered) -> Stepped
+    ensures { λ s. ⌜ Conveys s (answeredAs (r .answer)) (r .writer) ⌝ }
 {
-    match a {
+    let a = r.answer;
+    let writer = r.writer;
+    let answer = match a {
         Answer::Accepted => Reply::Accepted,
         Answer::Refused(no) => Reply::Refused(no),
-    }
+    };
+    Stepped { writer, answer }
 }
 
-fn taken(a: WriteAnswer) -> Reply
-    ensures { λ r. ⌜ repliedAs r ≡ writtenAs a ⌝ }
+fn written(r: Written) -> Stepped
+    ensures { λ s. ⌜ Conveys s (writtenAs (r .answer)) (r .writer) ⌝ }
 {
-    match a {
+    let a = r.answer;
+    let writer = r.writer;
+    let answer = match a {
         WriteAnswer::Taken(count) => Reply::One(count as u64),
         WriteAnswer::Refused(no) => Reply::Refused(no),
-    }
+    };
+    Stepped { writer, answer }
 }
 
-fn chunk(a: FinishAnswer) -> Reply
-    ensures { λ r. ⌜ repliedAs r ≡ finishedAs a ⌝ }
+fn finished(r: Finished) -> Stepped
+    ensures { λ s. ⌜ Conveys s (finishedAs (r .answer)) (r .writer) ⌝ }
 {
-    match a {
+    let a = r.answer;
+    let writer = r.writer;
+    let answer = match a {
         FinishAnswer::Chunk(c) => Reply::Four(
             c.position.file_id,
             c.position.offset,
@@ -71,25 +82,31 @@ fn chunk(a: FinishAnswer) -> Reply
             c.length as u64,
         ),
         FinishAnswer::Refused(no) => Reply::Refused(no),
-    }
+    };
+    Stepped { writer, answer }
 }
 
-fn entry(a: CommitAnswer) -> Reply
-    ensures { λ r. ⌜ repliedAs r ≡ committedAs a ⌝ }
+fn committed(r: Committed) -> Stepped
+    ensures { λ s. ⌜ Conveys s (committedAs (r .answer)) (r .writer) ⌝ }
 {
-    match a {
+    let a = r.answer;
+    let writer = r.writer;
+    let answer = match a {
         CommitAnswer::Entry { id, length } => Reply::Two(id, length as u64),
         CommitAnswer::Refused(no) => Reply::Refused(no),
-    }
+    };
+    Stepped { writer, answer }
 }
 
-fn place(a: Landing) -> Reply
-    ensures { λ r. ⌜ repliedAs r ≡ landedAs a ⌝ }
+// a landing leaves the writer that it was given
+fn landed(w: LogFileWriter, a: Landing) -> Stepped
+    ensures { λ s. ⌜ Conveys s (landedAs a) w ⌝ }
 {
-    match a {
+    let answer = match a {
         Landing::At(p) => Reply::One(p),
         Landing::Refused(no) => Reply::Refused(no),
-    }
+    };
+    Stepped { writer: w, answer }
 }
 
 // Makes the public call that `call` names; `bytes` is what a write offers, and is not looked at by the others. Refused as that call is.
@@ -103,93 +120,15 @@ pub fn step(
     ensures { λ r. ⌜ StepAllows w (now (image .entry)) (now (staging .entry)) call (now (bytes .entry)) r (now (image .exit)) (now (staging .exit)) ⌝ }
 {
     match call {
-        Call::BeginEntry(id) => {
-            let r = log_file::entries::begin_entry(w, image, staging, id);
-            let a = r.answer;
-            let next = r.writer;
-            Stepped {
-                writer: next,
-                answer: plain(a),
-            }
-        }
-        Call::BeginChunk(n) => {
-            let r = log_file::entries::begin_chunk(w, image, staging, n);
-            let a = r.answer;
-            let next = r.writer;
-            Stepped {
-                writer: next,
-                answer: plain(a),
-            }
-        }
-        Call::Write => {
-            let r = log_file::entries::write(w, image, staging, bytes);
-            let a = r.answer;
-            let next = r.writer;
-            Stepped {
-                writer: next,
-                answer: taken(a),
-            }
-        }
-        Call::Finish => {
-            let r = log_file::entries::finish(w, image, staging);
-            let a = r.answer;
-            let next = r.writer;
-            Stepped {
-                writer: next,
-                answer: chunk(a),
-            }
-        }
-        Call::Commit => {
-            let r = log_file::entries::commit(w, image, staging);
-            let a = r.answer;
-            let next = r.writer;
-            Stepped {
-                writer: next,
-                answer: entry(a),
-            }
-        }
-        Call::Rollback => {
-            let r = log_file::entries::rollback(w, image, staging);
-            let a = r.answer;
-            let next = r.writer;
-            Stepped {
-                writer: next,
-                answer: plain(a),
-            }
-        }
-        Call::Recycle(id) => {
-            let r = log_file::file::recycle(w, image, staging, id);
-            let a = r.answer;
-            let next = r.writer;
-            Stepped {
-                writer: next,
-                answer: plain(a),
-            }
-        }
-        Call::Flush => {
-            let r = log_file::file::flush(w, image, staging);
-            let a = r.answer;
-            let next = r.writer;
-            Stepped {
-                writer: next,
-                answer: plain(a),
-            }
-        }
-        Call::Synchronize(t) => {
-            let r = log_file::file::synchronize(w, image, staging, t);
-            let a = r.answer;
-            let next = r.writer;
-            Stepped {
-                writer: next,
-                answer: plain(a),
-            }
-        }
-        Call::Seek(from) => {
-            let a = log_file::file::seek(w, image, staging, from);
-            Stepped {
-                writer: w,
-                answer: place(a),
-            }
-        }
+        Call::BeginEntry(id) => answered(log_file::entries::begin_entry(w, image, staging, id)),
+        Call::BeginChunk(n) => answered(log_file::entries::begin_chunk(w, image, staging, n)),
+        Call::Write => written(log_file::entries::write(w, image, staging, bytes)),
+        Call::Finish => finished(log_file::entries::finish(w, image, staging)),
+        Call::Commit => committed(log_file::entries::commit(w, image, staging)),
+        Call::Rollback => answered(log_file::entries::rollback(w, image, staging)),
+        Call::Recycle(id) => answered(log_file::file::recycle(w, image, staging, id)),
+        Call::Flush => answered(log_file::file::flush(w, image, staging)),
+        Call::Synchronize(t) => answered(log_file::file::synchronize(w, image, staging, t)),
+        Call::Seek(from) => landed(w, log_file::file::seek(w, image, staging, from)),
     }
 }

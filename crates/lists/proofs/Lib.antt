@@ -1,1 +1,2 @@
+-- For the loop that stores.
 pub mod Turns

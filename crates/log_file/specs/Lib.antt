@@ -1,3 +1,4 @@
+-- In order: a writer's rules and its calls; opening it; its plain reads; what happened since opening, by the format; that a writer shows just this.
 pub mod State
 pub mod StateLaws
 pub mod Calls

@@ -6,6 +6,7 @@ use lib.ListN.{length, replicate}
 use lib.Dec.{ltb}
 use Rattle.lists.specs.Lay.{lay}
 use Rattle.lists.specs.Answers.{Check, _⇒_, first, reply, obey}
+use Rattle.entry.specs.Format.{largestImage}
 use Rattle.buffered.specs.Staging.{Store, store, flushed, writtenAll}
 use Rattle.log_file.specs.declared.LastId.{LastId}
 use Rattle.log_file.specs.declared.LastId.the-variants.{Nothing}
@@ -31,7 +32,7 @@ padded l p = max ((l + p - 1) / p) 1 * p
 
 abbrev pub rangeChecks : (preallocate validated fileLength image staging : ℕ) → List Check
 rangeChecks p l f image staging =
-    (ltb 1048576 image ⇒ 12) ∷ (ltb 65536 staging ⇒ 12) ∷ (ltb p 1 ⇒ 12) ∷ (ltb 4294967295 p ⇒ 12) ∷ (ltb f l ⇒ 12) ∷ (ltb image f ⇒ 12) ∷ []
+    (ltb largestImage image ⇒ 12) ∷ (ltb 65536 staging ⇒ 12) ∷ (ltb p 1 ⇒ 12) ∷ (ltb 4294967295 p ⇒ 12) ∷ (ltb f l ⇒ 12) ∷ (ltb image f ⇒ 12) ∷ []
 
 abbrev pub roomChecks : (preallocate info validated image : ℕ) → List Check
 roomChecks p v l image = (ltb 255 v ⇒ 4) ∷ (ltb image (padded l p) ⇒ 5) ∷ (ltb image (5 + v) ⇒ 5) ∷ []

@@ -12,7 +12,7 @@ use Rattle.lists.specs.LayLaws.{length-lay, lay-done}
 use Rattle.lists.specs.Answers.{numberOf, refused}
 use Rattle.lists.specs.AnswersLaws.{clear}
 use Rattle.lists.specs.ChoiceLaws.{refusal-keeps, number-reply}
-use Rattle.entry.specs.Format.{header}
+use Rattle.entry.specs.Format.{header, largestImage}
 use Rattle.entry.specs.FormatLaws.{length-header}
 use Rattle.buffered.specs.Staging.{logical, writtenAll}
 use Rattle.buffered.specs.StagingLaws.{Reads, reads-itself, flush-reads, writtenAll-reads, sizes-both, flush-wrote, writtenAll-wrote}
@@ -57,7 +57,7 @@ length-prepared image p l f = length-lay (lay image f (replicate (p - f) 0)) l (
 
 -- what an accepted opening's row tells
 pub record Opens (o : Terms) (l f image staging : ℕ) : Type 0 where
-  pub size : image ≤ 1048576
+  pub size : image ≤ largestImage
   pub capacity : staging ≤ 65536
   pub preallocated : 1 ≤ o .preallocate
   pub preallocatable : o .preallocate ≤ 4294967295

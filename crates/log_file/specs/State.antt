@@ -5,6 +5,7 @@ use mathlib.Core.List.{List, [], _∷_}
 use lib.ListN.{length}
 use lib.Dec.{leb, eqb}
 use Rattle.lists.specs.Answers.{all}
+use Rattle.entry.specs.Format.{largestImage}
 use Rattle.buffered.specs.Staging.{Store, store, logicalPosition}
 use Rattle.log_file.specs.declared.Moment.{Moment}
 use Rattle.log_file.specs.declared.Moment.the-variants.{Idle, InEntry, InChunk}
@@ -31,7 +32,7 @@ position w = logicalPosition (w .file)
 -- 5 + v ≤ image size
 abbrev pub numberRules : LogFileWriter → List Bool
 numberRules w =
-    leb (w .size) 1048576 ∷ leb (w .capacity) 65536 ∷ leb (w .v) 255 ∷ leb (w .file .staged) (w .capacity)
+    leb (w .size) largestImage ∷ leb (w .capacity) 65536 ∷ leb (w .v) 255 ∷ leb (w .file .staged) (w .capacity)
     ∷ leb (w .file .synchronized) (w .file .position) ∷ leb (w .file .position) (w .file .length) ∷ leb (w .file .length) (w .size)
     ∷ leb (5 + w .v) (w .size) ∷ []
 

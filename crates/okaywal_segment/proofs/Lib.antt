@@ -1,8 +1,9 @@
-mod OpeningWays
-mod PositionWays
-mod Ranges
-mod ReaderRanges
-mod ReaderWays
-mod Starting
-mod Storing
-mod Ways
+-- How the functions come out, over plain variables; what is known of words in their ranges, of a call's start, and of a loop that stores.
+pub mod OpeningWays
+pub mod PositionWays
+pub mod Ranges
+pub mod ReaderRanges
+pub mod ReaderWays
+pub mod Starting
+pub mod Storing
+pub mod Ways

@@ -1,3 +1,4 @@
+-- In order: answers as words; a writer's words and calls, its opening, positions; a reader's words and calls; what openings leave; wrong answers.
 pub mod Words
 pub mod WriterWords
 pub mod WriterWordsLaws

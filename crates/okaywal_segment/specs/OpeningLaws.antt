@@ -14,6 +14,7 @@ use Rattle.lists.specs.LayLaws.{length-lay, lay-done, lay-fits}
 use Rattle.lists.specs.Answers.{numberOf}
 use Rattle.lists.specs.AnswersLaws.{every}
 use Rattle.lists.specs.ChoiceLaws.{either, obeyed}
+use Rattle.entry.specs.Format.{largestImage}
 use Rattle.log_file.specs.State.{Machine, machine}
 use Rattle.log_file.specs.Calls.{Called}
 use Rattle.log_file.specs.Opening.{Terms, openRefusal, openedMachine, blank, opened}
@@ -22,7 +23,6 @@ use Rattle.segment_reader.specs.declared.SegmentReader.{SegmentReader}
 use Rattle.segment_reader.specs.Reading.{Opened, opens, refuses, opened as headerOf}
 use Rattle.segment_reader.specs.Calls.{Step, told, answerOf, zeros, openedWith, new}
 use Rattle.segment_reader.specs.LedLaws.{opened-led}
-use Rattle.segment_reader.specs.State.{most}
 use Rattle.okaywal_segment.specs.WriterWords.{writerWords, writerFrom, writerFits}
 use Rattle.okaywal_segment.specs.WriterWordsLaws.{blank-words, length-writerWords, next-sees}
 use Rattle.okaywal_segment.specs.CarryLaws.{Small, words-fit}
@@ -126,7 +126,7 @@ module _ (file : ℕ) (image : List ℕ) where
   new-refused : (numberOf (answerOf (new file image .reply)) ≡ 0 → ⊥) → new file image .reader ≡ zeros
   unfolding new openedWith answerOf
   new-refused =
-      either (λ (s : Step). (numberOf (answerOf (s .reply)) ≡ 0 → ⊥) → s .reader ≡ zeros) (leb (length image) most) _ _ (λ _. go (headerOf image)) (λ _ h. refl)
+      either (λ (s : Step). (numberOf (answerOf (s .reply)) ≡ 0 → ⊥) → s .reader ≡ zeros) (leb (length image) largestImage) _ _ (λ _. go (headerOf image)) (λ _ h. refl)
     where
       go : (o : Opened) → (numberOf (answerOf (openedWith file image o .reply)) ≡ 0 → ⊥) → openedWith file image o .reader ≡ zeros
       go (opens k) h = absurd (h refl)
@@ -135,7 +135,7 @@ module _ (file : ℕ) (image : List ℕ) where
   new-accepted : numberOf (answerOf (new file image .reply)) ≡ 0 → new file image .reply ≡ told []
   unfolding new openedWith answerOf
   new-accepted =
-      either (λ (s : Step). numberOf (answerOf (s .reply)) ≡ 0 → s .reply ≡ told []) (leb (length image) most) _ _ (λ _. go (headerOf image) refl) (λ _ z. absurd (omega arith))
+      either (λ (s : Step). numberOf (answerOf (s .reply)) ≡ 0 → s .reply ≡ told []) (leb (length image) largestImage) _ _ (λ _. go (headerOf image) refl) (λ _ z. absurd (omega arith))
     where
       go : (o : Opened) → headerOf image ≡ o → numberOf (answerOf (openedWith file image o .reply)) ≡ 0 → openedWith file image o .reply ≡ told []
       go (opens k) e z = refl

@@ -9,8 +9,8 @@ use lib.ListN.{length}
 use lib.Dec.{leb}
 use Rattle.lists.specs.Lay.{lay}
 use Rattle.lists.specs.LayLaws.{length-lay}
+use Rattle.entry.specs.Format.{largestImage}
 use Rattle.segment_reader.specs.Reading.{Whole, complete, aborted, cutOff, wrongSum, whole, entry, none, lead, Opened, opens, refuses, opened}
-use Rattle.segment_reader.specs.State.{most}
 use Rattle.segment_reader.specs.Calls.{told, refusal, Step, step, zeros, openedWith, new}
 use Rattle.segment_reader.specs.Promises.{openAs, NewAllows}
 use Rattle.segment_reader.specs.LedLaws.{opened-led}
@@ -44,7 +44,7 @@ module _ (file : ℕ) (image list : List ℕ) where
 
   begins-so : new file image .reply ≡ told [] → readSegment file image list ≡ surveyOf list 0 0 (readFrom file image (whereTo image (new file image .reader)))
   unfolding new readSegment
-  begins-so h = go (leb (length image) most) h
+  begins-so h = go (leb (length image) largestImage) h
     where
       go : (b : Bool) → cond b (openedWith file image (opened image)) (step zeros (refusal 12)) .reply ≡ told []
           → cond b (readOpened file image list (opened image)) (surveyed (refusal 12) list)
@@ -54,7 +54,7 @@ module _ (file : ℕ) (image list : List ℕ) where
 
   refused-so : (n : ℕ) → new file image .reply ≡ refusal n → surveyed (refusal n) list ≡ readSegment file image list
   unfolding new readSegment openedWith readOpened
-  refused-so n h = go (leb (length image) most) (opened image) h
+  refused-so n h = go (leb (length image) largestImage) (opened image) h
     where
       go : (b : Bool) (o : Opened) → cond b (openedWith file image o) (step zeros (refusal 12)) .reply ≡ refusal n
           → surveyed (refusal n) list ≡ cond b (readOpened file image list o) (surveyed (refusal 12) list)
@@ -71,7 +71,7 @@ module _ (file : ℕ) (image list : List ℕ) where
 
   begins-calm : new file image .reply ≡ told [] → (new file image .reader .moment ≡ Between) × (new file image .reader .«file_id» ≡ file)
   unfolding new
-  begins-calm h = go (leb (length image) most) h
+  begins-calm h = go (leb (length image) largestImage) h
     where
       go : (b : Bool) → cond b (openedWith file image (opened image)) (step zeros (refusal 12)) .reply ≡ told []
           → (cond b (openedWith file image (opened image)) (step zeros (refusal 12)) .reader .moment ≡ Between)

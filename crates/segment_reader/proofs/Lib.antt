@@ -1,3 +1,4 @@
+-- How functions come out, from the small ones to a whole reading; last, cases and theorems on a few bytes.
 pub mod Returns
 pub mod Count
 pub mod Halves

@@ -8,8 +8,9 @@ use lib.ListN.{length}
 use lib.Dec.{leb, eqb}
 use Rattle.lists.specs.Answers.{Answer, accepted, refused}
 use Rattle.lists.specs.Stream.{part}
+use Rattle.entry.specs.Format.{largestImage}
 use Rattle.segment_reader.specs.Reading.{Mark, chunk, cut, close, other, standing, Part, inHeader, inData, inSum, Cut, headerCut, bodyCut, fits, matches, Skipped, at, broken, skip, Whole, complete, aborted, cutOff, wrongSum, whole, Next, seek, pass, left, Lead, entry, none, lead, Opened, opens, refuses, opened}
-use Rattle.segment_reader.specs.State.{most, fit, startOf, openOf}
+use Rattle.segment_reader.specs.State.{fit, startOf, openOf}
 use Rattle.segment_reader.specs.declared.Moment.{Moment}
 use Rattle.segment_reader.specs.declared.Moment.the-variants.{Between, InEntry, InChunk, Ended}
 use Rattle.segment_reader.specs.declared.SegmentReader.{SegmentReader}
@@ -79,7 +80,7 @@ openedWith file image (opens v) =
 openedWith file image (refuses n) = step zeros (refusal n)
 
 unfoldable pub new : (file : ℕ) → List ℕ → Step
-new file image = cond (leb (length image) most) (openedWith file image (opened image)) (step zeros (refusal 12))
+new file image = cond (leb (length image) largestImage) (openedWith file image (opened image)) (step zeros (refusal 12))
 
 -- ---- next entry: what is left of a current one is skipped; then `valid_until` becomes the place, and nine bytes are read
 

@@ -10,7 +10,8 @@ use lib.ListN.{length, drop}
 use lib.Seq.{take-add, drop-drop}
 use borrow.Author.Tests.{le-leb, eq-eqb}
 use Rattle.lists.specs.Stream.{part}
-use Rattle.segment_reader.specs.State.{most, standsAt, inPlace, fit, holding, openOf}
+use Rattle.entry.specs.Format.{largestImage}
+use Rattle.segment_reader.specs.State.{standsAt, inPlace, fit, holding, openOf}
 use Rattle.segment_reader.specs.StateLaws.{fit-says, fit-owes, open-says}
 use Rattle.segment_reader.specs.Calls.{moved, handed, readIn, read, bytesIn, readBytes, checkCrc, skipRemaining, readBy, after}
 use Rattle.segment_reader.specs.Cuts.{Piece, ask, check, callOf, readTo, bytesOf, gathered, toCome, ReadOut}
@@ -47,7 +48,7 @@ module _ (r : SegmentReader) (image : List ℕ) (id mark n : ℕ) where
       let s = fit-says (chunkAt p o) (length image) f in
       let w = fit-owes (chunkAt p o) (length image) id mark n o f refl in
       rw (
-        le-leb (length image) most (omega arith),
+        le-leb (length image) largestImage (omega arith),
         eq-eqb (r .size) (length image) (s .same),
         le-leb (p + k) (2 ^ 33) (omega arith),
         le-leb (o - k) n (omega arith),

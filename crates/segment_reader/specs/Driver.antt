@@ -6,9 +6,9 @@ use Prim.Native.Nat.{ℕ, suc, _+_, _*_}
 use lib.ListN.{length}
 use lib.Dec.{leb}
 use Rattle.lists.specs.Lay.{lay}
+use Rattle.entry.specs.Format.{largestImage}
 use Rattle.segment_reader.specs.Reading.{Whole, complete, aborted, cutOff, wrongSum, whole, Opened, opens, refuses, opened}
 use Rattle.segment_reader.specs.WholeReading.{Found, Reading, readFrom}
-use Rattle.segment_reader.specs.State.{most}
 use Rattle.segment_reader.specs.Calls.{Reply, told, refusal, cutNumber}
 use Rattle.segment_reader.specs.declared.survey.SegmentRead.{SegmentRead}
 use Rattle.segment_reader.specs.declared.survey.SegmentRead.the-variants.{Read, Refused}
@@ -72,7 +72,7 @@ readOpened file image list (opens v) = surveyOf list 0 0 (readFrom file image (5
 readOpened file image list (refuses n) = surveyed (refusal n) list
 
 unfoldable pub readSegment : (file : ℕ) → (image list : List ℕ) → Surveyed
-readSegment file image list = cond (leb (length image) most) (readOpened file image list (opened image)) (surveyed (refusal 12) list)
+readSegment file image list = cond (leb (length image) largestImage) (readOpened file image list (opened image)) (surveyed (refusal 12) list)
 
 -- ---- the promise
 

@@ -11,9 +11,10 @@ use borrow.Author.Tests.{le-leb, eq-eqb, leb-true, leb-false}
 use Rattle.lists.specs.Walk.{Keeps, around-ind}
 use Rattle.little_endian.specs.LittleEndian.{number}
 use Rattle.little_endian.specs.LittleEndianLaws.{Bytes, number-four}
+use Rattle.entry.specs.Format.{largestImage}
 use Rattle.segment_reader.specs.Reading.{Mark, chunk, cut, close, other, standing, Part, inHeader, inData, inSum, headerCut, fits, matches, Skipped, at, broken, skipTurn, skip, Whole, complete, aborted, cutOff, wrongSum, also, wholeTurn, whole, Next, seek, pass, afterCut, left, Lead, entry, none, lead, Opened, opens, refuses, opened}
 use Rattle.segment_reader.specs.ReadingLaws.{says, close-inside, lead-says, skip-forward, chunkTurn, whole-forward}
-use Rattle.segment_reader.specs.State.{most, standsAt, inPlace, fit, leaving, startOf, openOf}
+use Rattle.segment_reader.specs.State.{standsAt, inPlace, fit, leaving, startOf, openOf}
 use Rattle.segment_reader.specs.StateLaws.{open-says}
 use Rattle.segment_reader.specs.Calls.{told, refusal, step, zeros, placed, resting, openedWith, new, entryMet, entryPast, entryFrom, readEntry, chunkMet, chunkFrom, readChunk, handed, readIn, read, skipIn, skipRemaining, wholeFrom, readAllChunks, Call, nextEntry, nextChunk, crcCheck, skipRest, wholeEntry, dataRead, readBy, after}
 use Rattle.segment_reader.specs.declared.Moment.{Moment}
@@ -56,7 +57,7 @@ pub led-fits : (image : List ℕ) (r : SegmentReader) → Led image r → fit r 
 unfolding fit
 led-fits image r l =
     rw (
-      le-leb (length image) most (omega arith),
+      le-leb (length image) largestImage (omega arith),
       eq-eqb (r .size) (length image) (l .same),
       le-leb (r .place) (2 ^ 33) (omega arith),
       in-place image (r .place) (r .«valid_until») (r .moment) (l .kind),
@@ -259,11 +260,11 @@ opened-with-led file image (refuses n) e h q = let z : _≡_ {A = ℕ} 0 1 = cc 
 
 pub opened-led : (file : ℕ) (image : List ℕ) → new file image .reply ≡ told [] → Led image (new file image .reader)
 unfolding new
-opened-led file image q = go (leb (length image) most) refl q
+opened-led file image q = go (leb (length image) largestImage) refl q
   where
-    go : (b : Bool) → leb (length image) most ≡ b → cond b (openedWith file image (opened image)) (step zeros (refusal 12)) .reply ≡ told []
+    go : (b : Bool) → leb (length image) largestImage ≡ b → cond b (openedWith file image (opened image)) (step zeros (refusal 12)) .reply ≡ told []
         → Led image (cond b (openedWith file image (opened image)) (step zeros (refusal 12)) .reader)
-    go true e q = opened-with-led file image (opened image) refl (leb-true (length image) most e) q
+    go true e q = opened-with-led file image (opened image) refl (leb-true (length image) largestImage e) q
     go false e q = let z : _≡_ {A = ℕ} 0 1 = cc in absurd (omega arith)
 
 -- ---- the laws

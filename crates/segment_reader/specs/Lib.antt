@@ -1,3 +1,4 @@
+-- In order: what stands in an image, and the round trip; a reader's state and its calls; a chunk read in pieces; a whole segment read by the code.
 pub mod Reading
 pub mod ReadingLaws
 pub mod NumberLaws

@@ -6,7 +6,7 @@ use mathlib.Core.Path.{_≡_, refl, sym, ap, ap₂, _∙_}
 use mathlib.Core.List.{List, [], _∷_, _++_}
 use lib.ListN.{length, replicate}
 use borrow.Author.Tests.{le-leb}
-use Rattle.entry.specs.Format.{Entry, segment}
+use Rattle.entry.specs.Format.{Entry, segment, largestImage}
 use Rattle.segment_reader.specs.Reading.{Opened, opens, refuses, opened}
 use Rattle.segment_reader.specs.WholeReading
 use Rattle.segment_reader.specs.WholeReading.{Found, Reading, read, readFrom}
@@ -14,7 +14,6 @@ use Rattle.lists.specs.All.{All}
 use Rattle.entry.specs.Writable.{Writable}
 use Rattle.segment_reader.specs.Yielded.{asFound}
 use Rattle.segment_reader.specs.RoundTrip.{round-trip-zeros}
-use Rattle.segment_reader.specs.State.{most}
 use Rattle.segment_reader.specs.Calls.{Reply, told}
 use Rattle.segment_reader.specs.Driver.{oneIf, completes, recorded, surveyed, surveyOf, readOpened, readSegment, ReadSegmentAllows}
 use Rattle.segment_reader.specs.DriverLaws.{read-segment-one-answer}
@@ -29,7 +28,7 @@ unfolding readOpened WholeReading.readOpened
 surveys file image list r (opens v) e = let z : readFrom file image (5 + v) ≡ r = cc in ap (surveyOf list 0 0) z
 surveys file image list r (refuses n) e = let z : _≡_ {A = ℕ} 0 1 = cc in absurd (omega arith)
 
-pub survey-reads : (file : ℕ) (image list : List ℕ) (r : Reading) → length image ≤ most → WholeReading.readSegment file image ≡ read r
+pub survey-reads : (file : ℕ) (image list : List ℕ) (r : Reading) → length image ≤ largestImage → WholeReading.readSegment file image ≡ read r
     → readSegment file image list ≡ surveyOf list 0 0 r
 unfolding readSegment WholeReading.readSegment
 survey-reads file image list r h e = rw (le-leb _ _ h) (surveys file image list r (opened image) e)
@@ -48,7 +47,7 @@ all-complete p (e ∷ es) = rw (all-complete _ es) (omega arith)
 
 -- any writable entries, zeros behind them: each is met and complete, in order, and `valid_until` is their end. `recorded` notes each one's id, the
 -- place where its chunks begin and how many there are; what stands there are its chunks (`yielded` of `round-trip-zeros`).
-pub read-back : (file : ℕ) (info : List ℕ) (es : List Entry) (k : ℕ) → All (Writable file) es → length (segment info es ++ replicate k 0) ≤ most
+pub read-back : (file : ℕ) (info : List ℕ) (es : List Entry) (k : ℕ) → All (Writable file) es → length (segment info es ++ replicate k 0) ≤ largestImage
     → (before : List ℕ) (a : SegmentRead) (after : List ℕ) → ReadSegmentAllows file (segment info es ++ replicate k 0) before a after
     → (a ≡ Read (length es) (length es) (length (segment info es))) × (after ≡ recorded before 0 (asFound (5 + length info) es))
 unfolding surveyOf

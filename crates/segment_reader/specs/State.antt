@@ -3,6 +3,7 @@
 use mathlib.Core.Bool.{Bool, true, cond, _&&_}
 use Prim.Native.Nat.{ℕ, _+_, _-_, _^_}
 use lib.Dec.{leb, eqb}
+use Rattle.entry.specs.Format.{largestImage}
 use Rattle.segment_reader.specs.declared.Moment.{Moment}
 use Rattle.segment_reader.specs.declared.Moment.the-variants.{Between, InEntry, InChunk, Ended}
 use Rattle.segment_reader.specs.declared.SegmentReader.{SegmentReader}
@@ -10,10 +11,6 @@ use Rattle.segment_reader.specs.declared.state.Start.{Start}
 use Rattle.segment_reader.specs.declared.state.Start.the-variants.{Unfit, Over, Idle, Current}
 use Rattle.segment_reader.specs.declared.state.Open.{Open}
 use Rattle.segment_reader.specs.declared.state.Open.the-variants.{Refused, Chunk}
-
--- the largest image
-abbrev pub most : ℕ
-most = 1048576
 
 -- in a chunk: owed does not exceed n, and the 02's offset + 5 + n - owed is the place
 unfoldable pub standsAt : (mark n owed place : ℕ) → Bool
@@ -27,7 +24,7 @@ inPlace Ended place = true
 
 -- the state is one for an image of this size: else 12
 unfoldable pub fit : SegmentReader → (size : ℕ) → Bool
-fit r size = leb size most && eqb (r .size) size && leb (r .place) (2 ^ 33) && inPlace (r .moment) (r .place)
+fit r size = leb size largestImage && eqb (r .size) size && leb (r .place) (2 ^ 33) && inPlace (r .moment) (r .place)
 
 -- calls for an entry, a chunk or a whole entry first leave an open chunk: the place is its 02 + 9 + n
 unfoldable pub leaving : Moment → (place : ℕ) → Start

@@ -7,15 +7,16 @@ use native.Mathlib.Omega.{arith}
 use lib.ListN.{length}
 use lib.Dec.{leb, eqb}
 use borrow.Author.Tests.{leb-true, eqb-true}
+use Rattle.entry.specs.Format.{largestImage}
 use Rattle.segment_reader.specs.Reading.{fits}
-use Rattle.segment_reader.specs.State.{most, standsAt, inPlace, fit, holding, openOf}
+use Rattle.segment_reader.specs.State.{standsAt, inPlace, fit, holding, openOf}
 use Rattle.segment_reader.specs.declared.Moment.{Moment}
 use Rattle.segment_reader.specs.declared.Moment.the-variants.{Between, InEntry, InChunk, Ended}
 use Rattle.segment_reader.specs.declared.SegmentReader.{SegmentReader}
 use Rattle.segment_reader.specs.declared.state.Open.the-variants.{Refused, Chunk}
 
 pub record Fit (r : SegmentReader) (size : ℕ) : Type 0 where
-  pub small : size ≤ 1048576
+  pub small : size ≤ largestImage
   pub same : r .size ≡ size
   pub near : r .place ≤ 8589934592
   pub stands : inPlace (r .moment) (r .place) ≡ true
@@ -29,7 +30,7 @@ parts false b d e q = (cc, cc, cc, cc)
 pub fit-says : (r : SegmentReader) (size : ℕ) → fit r size ≡ true → Fit r size
 unfolding fit
 fit-says r size q =
-    let z = parts (leb size most) (eqb (r .size) size) (leb (r .place) (2 ^ 33)) (inPlace (r .moment) (r .place)) q in
+    let z = parts (leb size largestImage) (eqb (r .size) size) (leb (r .place) (2 ^ 33)) (inPlace (r .moment) (r .place)) q in
     record { small = leb-true _ _ (z .0); same = eqb-true _ _ (z .1); near = leb-true _ _ (z .2); stands = z .3 }
 
 -- an open chunk's numbers
