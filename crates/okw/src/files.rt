@@ -1,6 +1,7 @@
 // Segment files: read whole, written whole.
 ghost use Prim.Native.Nat.{_+_, _≤_};
 ghost use lib.ListN.{length};
+use crate::modes;
 use crate::outcome;
 use crate::outcome::Reason;
 
@@ -206,13 +207,36 @@ fn at_the_file_beside(reason: Reason) -> Reason {
     }
 }
 
+// Gives the new file the owner, group and mode of the one at the path.
+fn keep_mode(path: &[u8], fd: i32) -> Reason {
+    let old = os::open_read(path);
+    if old < 0 {
+        return Reason::System(os::errno());
+    }
+    let error = modes::keep(old, fd);
+    libc::close(old);
+    if error != 0 {
+        return Reason::Beside(error);
+    }
+    Reason::Fine
+}
+
+// The mode comes before the bytes: while they are written, nobody reads them who could not read the old ones.
+fn put_like(path: &[u8], fd: i32, bytes: &[u8]) -> Reason {
+    let reason = keep_mode(path, fd);
+    if !outcome::is_fine(reason) {
+        return reason;
+    }
+    at_the_file_beside(put_whole(fd, bytes))
+}
+
 // Writes the new file whole, synchronizes it, and renames it over the one that the argument names.
 pub(crate) fn replace(argument: usize, fd: i32, bytes: &[u8]) -> Reason {
     let mut path = io::buffer();
     let n = os::arg(argument, &mut path);
-    let reason = put_whole(fd, bytes);
+    let reason = put_like(&path[..n], fd, bytes);
     if !outcome::is_fine(reason) {
-        return remove_beside(argument, fd, at_the_file_beside(reason));
+        return remove_beside(argument, fd, reason);
     }
     libc::close(fd);
     put_over(&path[..n])

@@ -16,6 +16,7 @@ mod dump;
 mod entries;
 mod files;
 mod list;
+mod modes;
 mod outcome;
 mod say;
 mod written;
