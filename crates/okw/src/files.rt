@@ -1,6 +1,7 @@
 // Segment files: read whole, written whole.
 ghost use Prim.Native.Nat.{_+_, _≤_};
 ghost use lib.ListN.{length};
+ghost use Rattle.libc.specs.Io.{Ended};
 use crate::modes;
 use crate::outcome;
 use crate::outcome::Reason;
@@ -142,10 +143,33 @@ fn name_beside(path: &[u8], beside: &mut [u8]) -> usize
     n + 4
 }
 
+// The path as C reads it, up to a 0.
+fn ended(path: &[u8]) -> [u8; 4096]
+    requires { ⌜ length (now path) ≤ 4095 ⌝ }
+    ensures { λ r. ⌜ Ended r ⌝ }
+{
+    let mut ended = io::buffer();
+    lists::copy_at(&mut ended, 0, path);
+    ended[4095] = 0;
+    ended
+}
+
+fn is_link(path: &[u8]) -> bool {
+    if path.len() > 4095 {
+        return false;
+    }
+    let name = ended(path);
+    let mut target = [0u8; 1];
+    libc::readlink(&name, &mut target) >= 0
+}
+
 fn make_new(path: &[u8]) -> Beside {
     let mut beside = io::buffer();
     if path.len() > 4091 {
         return Beside::Failed(Reason::Beside(libc::ENAMETOOLONG));
+    }
+    if is_link(path) {
+        return Beside::Failed(Reason::Link);
     }
     let n = name_beside(path, &mut beside);
     let fd = os::create(text::first(&beside, n));
@@ -221,7 +245,7 @@ fn keep_mode(path: &[u8], fd: i32) -> Reason {
     Reason::Fine
 }
 
-// The mode comes before the bytes: while they are written, nobody reads them who could not read the old ones.
+// The mode comes before the bytes, so that these are not written to a file that more people may open than the old one.
 fn put_like(path: &[u8], fd: i32, bytes: &[u8]) -> Reason {
     let reason = keep_mode(path, fd);
     if !outcome::is_fine(reason) {

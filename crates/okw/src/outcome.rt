@@ -9,6 +9,7 @@ pub enum Reason {
     // the system's number of an error: at the file, or at the new file beside it
     System(i32),
     Beside(i32),
+    Link,
     TooLarge,
     NotNumber,
     TooLong,
@@ -115,6 +116,7 @@ pub(crate) fn put_reason(reason: Reason) {
         Reason::Refused(no) => put_number(no),
         Reason::System(error) => put_system(error),
         Reason::Beside(error) => put_beside(error),
+        Reason::Link => say::text(b"it is a link: expected the file that it leads to"),
         Reason::TooLarge => {
             put_number(12);
             say::text(b": a segment has at most 1048576 bytes");
