@@ -26,11 +26,11 @@ loads wants state info answer answer′ made s e =
     let a = answer-waits (enough wants state info answer) (writerFits state) made answer answer′ s e in
     (record { all-words = r .0; all-info = r .1; in-range = b .1 }, rw a (r .2))
 
-module _ (c : Call) (state info image staging answer : List ℕ) (made : Bool) (answer₁ : List ℕ)
-    (s : Starts (enough (wanted c) state info answer) (writerFits state) answer made answer₁) where
+module _ (c : Call) (wants : ℕ) (asks : wanted c ≡ wants) (state info image staging answer : List ℕ) (made : Bool) (answer₁ : List ℕ)
+    (s : Starts (enough wants state info answer) (writerFits state) answer made answer₁) where
   pub not-called : made ≡ false → WriterAllows c state info image staging answer 12 state image staging answer₁
   unfolding crossed
-  not-called e = not-made (λ (a : List ℕ). left 12 state image staging a) _ (enough (wanted c) state info answer) (writerFits state) made answer answer₁ s e
+  not-called e = rw asks (not-made (λ (a : List ℕ). left 12 state image staging a) _ (enough wants state info answer) (writerFits state) made answer answer₁ s e)
 
   pub comes-out : made ≡ true → (w w′ : LogFileWriter) (a : Answer) (n : ℕ) (state′ image′ staging′ answer′ : List ℕ)
       → w ≡ writerFrom state info → after a (machine w′ image′ staging′) ≡ called (machine w image staging) c → n ≡ numberOf a
@@ -38,10 +38,10 @@ module _ (c : Call) (state info image staging answer : List ℕ) (made : Bool) (
       → WriterAllows c state info image staging answer n state′ image′ staging′ answer′
   unfolding crossed
   comes-out e w w′ a n state′ image′ staging′ answer′ ew ec en es ea =
-      let k : answer₁ ≡ answer = answer-waits (enough (wanted c) state info answer) (writerFits state) made answer answer₁ s e in
+      let k : answer₁ ≡ answer = answer-waits (enough wants state info answer) (writerFits state) made answer answer₁ s e in
       let h : left n state′ image′ staging′ answer′ ≡ handed c state answer (after a (machine w′ image′ staging′)) = rw (en, es, ea, k) in
       h ∙ ap (handed c state answer) (ec ∙ ap (λ (v : LogFileWriter). called (machine v image staging) c) ew)
-      ∙ made-it _ _ _ (enough (wanted c) state info answer) (writerFits state) made answer answer₁ s e
+      ∙ rw asks (made-it _ _ _ (enough wants state info answer) (writerFits state) made answer answer₁ s e)
 
   -- with an answer
   pub answered : moves c ≡ true → made ≡ true → (w w′ : LogFileWriter) (a : Answer) (n : ℕ) (state′ image′ staging′ answer′ : List ℕ) (r : Reply)
@@ -51,13 +51,14 @@ module _ (c : Call) (state info image staging answer : List ℕ) (made : Bool) (
       comes-out e w w′ a n state′ image′ staging′ answer′ ew ec (rw er at (l .number-is)) (rw m (rw er at (l .state-is))) (rw er at (l .answer-is))
 
 -- without an answer
-module _ (c : Call) (state info image staging : List ℕ) (made : Bool) (s : Starts (enough (wanted c) state info []) (writerFits state) [] made []) where
-  pub unanswered : moves c ≡ true → made ≡ true → (w w′ : LogFileWriter) (a : Answer) (number n : ℕ) (state′ image′ staging′ : List ℕ)
-      → w ≡ writerFrom state info → after a (machine w′ image′ staging′) ≡ called (machine w image staging) c → number ≡ numberOf a
-      → Restates state w′ number n state′ → WriterAllows c state info image staging [] n state′ image′ staging′ []
-  unanswered m e w w′ a number n state′ image′ staging′ ew ec en r =
-      comes-out c state info image staging [] made [] s e w w′ a n state′ image′ staging′ [] ew ec (r .number-is ∙ en)
-      (rw m (rw en at (r .state-is))) (sym (lay-none (answerWords a) 0))
+module _ (c : Call) (asks : wanted c ≡ 0) (state info image staging : List ℕ) (made : Bool)
+    (s : Starts (enough 0 state info []) (writerFits state) [] made []) where
+  pub unanswered : moves c ≡ true → made ≡ true → (w w′ : LogFileWriter) (a : Answer) (n : ℕ) (state′ image′ staging′ : List ℕ) (r : Reply)
+      → w ≡ writerFrom state info → after a (machine w′ image′ staging′) ≡ called (machine w image staging) c → r ≡ inWords a
+      → Restates state w′ (r .number) n state′ → WriterAllows c state info image staging [] n state′ image′ staging′ []
+  unanswered m e w w′ a n state′ image′ staging′ r ew ec er l =
+      comes-out c 0 asks state info image staging [] made [] s e w w′ a n state′ image′ staging′ [] ew ec (rw er at (l .number-is))
+      (rw m (rw er at (l .state-is))) (sym (lay-none (answerWords a) 0))
 
 -- nothing moves
 module _ (from : SeekFrom) (state info image staging answer : List ℕ) (made : Bool) (answer₁ : List ℕ)
@@ -66,4 +67,4 @@ module _ (from : SeekFrom) (state info image staging answer : List ℕ) (made : 
       → w ≡ writerFrom state info → after a (machine w image staging) ≡ called (machine w image staging) (landing from) → r ≡ inWords a
       → n ≡ r .number → answer′ ≡ lay answer₁ 0 (r .words) → WriterAllows (landing from) state info image staging answer n state image staging answer′
   landed e w a n answer′ r ew ec er en ea =
-      comes-out (landing from) state info image staging answer made answer₁ s e w w a n state image staging answer′ ew ec (rw er at en) refl (rw er at ea)
+      comes-out (landing from) 4 refl state info image staging answer made answer₁ s e w w a n state image staging answer′ ew ec (rw er at en) refl (rw er at ea)

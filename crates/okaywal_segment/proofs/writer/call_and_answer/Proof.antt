@@ -1,11 +1,10 @@
 -- Not made, or the call and what it leaves.
 use borrow.Author.Tests.{not-true, not-false}
+use Rattle.journal.specs.Step.{callOf}
 use Rattle.okaywal_segment.proofs.Ways.{loads, not-called, answered}
-use mathlib.Core.Path.{refl}
-use Rattle.log_file.specs.Calls.{write}
 use borrow.Author.Needs.{needs}
-use Rattle.okaywal_segment.proofs.writer.okw_writer_write.Statement.{statement}
-use Rattle.okaywal_segment.proofs.writer.okw_writer_write.Tie as tie
+use Rattle.okaywal_segment.proofs.writer.call_and_answer.Statement.{statement}
+use Rattle.okaywal_segment.proofs.writer.call_and_answer.Tie as tie
 
 ready-to-answer-requires : tie.Need-ready-to-answer-requires
 ready-to-answer-requires c κs = search needs
@@ -19,18 +18,18 @@ same-length-2 c = search needs
 returns : tie.Need-returns
 returns c =
     let a = c .before .before .before .before .before .before .before .before .before .before .before .before .args in
-    not-called (write (a .bytes .now)) (a .state .now) (a .info .now) (a .image .now) (a .staging .now) (a .answer .now) _ _ (c .before .before .before .ready-to-answer .ensures) (not-true (c .before .before .before .ready-to-answer .result) (c .if1 .taken))
+    not-called (callOf (a .call) (a .bytes .now)) 4 (c .before .before .before .before .before .before .before .before .before .before .before .before .pre .0) (a .state .now) (a .info .now) (a .image .now) (a .staging .now) (a .answer .now) _ _ (c .before .before .before .ready-to-answer .ensures) (not-true (c .before .before .before .ready-to-answer .result) (c .if1 .taken))
 
 load-requires : tie.Need-load-requires
 load-requires c κs =
     let a = c .before .before .before .before .before .before .before .before .before .before .before .before .before .args in
     loads 4 (a .state .now) (a .info .now) (a .answer .now) _ _ (c .before .before .before .before .ready-to-answer .ensures) (not-false (c .before .before .before .before .ready-to-answer .result) (c .before .if1 .left)) .0
 
-write-requires : tie.Need-write-requires
-write-requires c κs = search needs
+step-requires : tie.Need-step-requires
+step-requires c κs = search needs
 
-of-write-requires : tie.Need-of-write-requires
-of-write-requires c κs = search needs
+of-reply-requires : tie.Need-of-reply-requires
+of-reply-requires c κs = search needs
 
 leave-requires : tie.Need-leave-requires
 leave-requires c κs =
@@ -53,11 +52,11 @@ same-length-6 c = search needs
 returns-2 : tie.Need-returns-2
 returns-2 c =
     let a = c .before .before .before .before .before .before .before .before .before .before .before .before .before .before .before .before .before .before .before .before .before .before .before .before .before .before .before .before .before .before .args in
-    answered (write (a .bytes .now)) (a .state .now) (a .info .now) (a .image .now) (a .staging .now) (a .answer .now) _ _ (c .before .before .before .before .before .before .before .before .before .before .before .before .before .before .before .before .before .before .before .before .before .ready-to-answer .ensures) refl (not-false (c .before .before .before .before .before .before .before .before .before .before .before .before .before .before .before .before .before .before .before .before .before .ready-to-answer .result) (c .before .before .before .before .before .before .before .before .before .before .before .before .before .before .before .before .before .before .if1 .left)) _ _ _ _ _ _ _ _ _
-    (c .before .before .before .before .before .before .before .before .before .before .before .before .before .before .before .before .load .ensures) (c .before .before .before .before .before .before .before .before .before .before .before .before .before .write .ensures) (c .before .before .before .before .before .of-write .ensures) (c .before .before .before .before .leave .ensures)
+    answered (callOf (a .call) (a .bytes .now)) 4 (c .before .before .before .before .before .before .before .before .before .before .before .before .before .before .before .before .before .before .before .before .before .before .before .before .before .before .before .before .before .before .pre .0) (a .state .now) (a .info .now) (a .image .now) (a .staging .now) (a .answer .now) _ _ (c .before .before .before .before .before .before .before .before .before .before .before .before .before .before .before .before .before .before .before .before .before .ready-to-answer .ensures) (c .before .before .before .before .before .before .before .before .before .before .before .before .before .before .before .before .before .before .before .before .before .before .before .before .before .before .before .before .before .before .pre .1) (not-false (c .before .before .before .before .before .before .before .before .before .before .before .before .before .before .before .before .before .before .before .before .before .ready-to-answer .result) (c .before .before .before .before .before .before .before .before .before .before .before .before .before .before .before .before .before .before .if1 .left)) _ _ _ _ _ _ _ _ _
+    (c .before .before .before .before .before .before .before .before .before .before .before .before .before .before .before .before .load .ensures) (c .before .before .before .before .before .before .before .before .before .before .before .before .before .step .ensures) (c .before .before .before .before .before .of-reply .ensures) (c .before .before .before .before .leave .ensures)
 
-pub okw-writer-write-spec : {M : Type 1} → statement M
-okw-writer-write-spec =
+pub call-and-answer-spec : {M : Type 1} → statement M
+call-and-answer-spec =
     tie.close
     (tie.spec
     ready-to-answer-requires
@@ -65,8 +64,8 @@ okw-writer-write-spec =
     same-length-2
     returns
     load-requires
-    write-requires
-    of-write-requires
+    step-requires
+    of-reply-requires
     leave-requires
     same-length-3
     same-length-4
