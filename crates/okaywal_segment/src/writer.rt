@@ -5,21 +5,44 @@ ghost use mathlib.Core.Bool.{true};
 ghost use mathlib.Core.List.{[]};
 ghost use Rattle.log_file.specs.Calls.{landing};
 ghost use Rattle.journal.specs.Step.{callOf};
+ghost use Rattle.okaywal_segment.specs.WriterWords.{Loads};
+ghost use Rattle.okaywal_segment.specs.Steps.{Makes};
 ghost use Rattle.okaywal_segment.specs.Crossing.{wanted, moves, WriterAllows};
 ghost use Rattle.okaywal_segment.specs.WriterPromises.{BeginAllows, BeginChunkAllows, WriteAllows, FinishAllows, CommitAllows, RollbackAllows, RecycleAllows, FlushAllows, SyncAllows, LandStartAllows, LandEndAllows, LandCurrentAllows};
 use crate::steps::answer_with;
-use crate::steps::leave;
 use crate::steps::ready;
 use crate::steps::ready_to_answer;
 use crate::steps::restate;
 use crate::words;
+use crate::words::Reply;
 use crate::writer_words::load;
 use buffered::seek::SeekFrom;
 use journal::Call;
 
 // ---- any call: words to a state, the call, a state to words
 
-// One that answers nothing.
+// Makes the call; writes every state word anew, unless it was refused. Returns the answer in words. `bytes` is what a write offers.
+fn make(
+    state: &mut [u64],
+    info: &[u8],
+    image: &mut [u8],
+    staging: &mut [u8],
+    call: Call,
+    bytes: &[u8],
+) -> Reply
+    requires { ⌜ Loads (now state) (now info) ⌝ }
+    ensures { λ r. ⌜ Makes (callOf call (now (bytes .entry))) (now (state .entry)) (now (info .entry)) (now (image .entry)) (now (staging .entry)) r (now (state .exit)) (now (image .exit)) (now (staging .exit)) ⌝ }
+{
+    let w = load(state, info);
+    let done = journal::step(w, image, staging, call, bytes);
+    let next = done.writer;
+    let said = done.answer;
+    let reply = words::of_reply(said);
+    restate(state, next, reply.number);
+    reply
+}
+
+// A call that answers nothing.
 fn call(state: &mut [u64], info: &[u8], image: &mut [u8], staging: &mut [u8], call: Call) -> u64
     requires { ⌜ (wanted (callOf call []) ≡ 0) × (moves (callOf call []) ≡ true) ⌝ }
     ensures { λ r. ⌜ WriterAllows (callOf call []) (now (state .entry)) (now (info .entry)) (now (image .entry)) (now (staging .entry)) [] r (now (state .exit)) (now (image .exit)) (now (staging .exit)) [] ⌝ }
@@ -27,15 +50,11 @@ fn call(state: &mut [u64], info: &[u8], image: &mut [u8], staging: &mut [u8], ca
     if !ready(state, info) {
         return 12;
     }
-    let w = load(state, info);
-    let done = journal::step(w, image, staging, call, &[]);
-    let next = done.writer;
-    let said = done.answer;
-    let reply = words::of_reply(said);
-    restate(state, next, reply.number)
+    let reply = make(state, info, image, staging, call, &[]);
+    reply.number
 }
 
-// One that answers; `bytes` is what a write offers.
+// A call that answers.
 fn call_and_answer(
     state: &mut [u64],
     info: &[u8],
@@ -51,11 +70,8 @@ fn call_and_answer(
     if !ready_to_answer(state, info, answer) {
         return 12;
     }
-    let w = load(state, info);
-    let done = journal::step(w, image, staging, call, bytes);
-    let next = done.writer;
-    let said = done.answer;
-    leave(state, answer, next, words::of_reply(said))
+    let reply = make(state, info, image, staging, call, bytes);
+    answer_with(answer, reply)
 }
 
 // ---- the calls that move the writer

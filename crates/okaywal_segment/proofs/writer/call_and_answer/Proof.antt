@@ -1,4 +1,4 @@
--- Not made, or the call and what it leaves.
+-- Not made, or what the call leaves and its answer.
 use borrow.Author.Tests.{not-true, not-false}
 use Rattle.journal.specs.Step.{callOf}
 use Rattle.okaywal_segment.proofs.Ways.{loads, not-called, answered}
@@ -20,22 +20,15 @@ returns c =
     let a = c .before .before .before .before .before .before .before .before .before .before .before .before .args in
     not-called (callOf (a .call) (a .bytes .now)) 4 (c .before .before .before .before .before .before .before .before .before .before .before .before .pre .0) (a .state .now) (a .info .now) (a .image .now) (a .staging .now) (a .answer .now) _ _ (c .before .before .before .ready-to-answer .ensures) (not-true (c .before .before .before .ready-to-answer .result) (c .if1 .taken))
 
-load-requires : tie.Need-load-requires
-load-requires c κs =
-    let a = c .before .before .before .before .before .before .before .before .before .before .before .before .before .args in
-    loads 4 (a .state .now) (a .info .now) (a .answer .now) _ _ (c .before .before .before .before .ready-to-answer .ensures) (not-false (c .before .before .before .before .ready-to-answer .result) (c .before .if1 .left)) .0
+make-requires : tie.Need-make-requires
+make-requires c κs =
+    let a = c .before .before .before .before .before .before .before .before .before .before .before .before .before .before .before .args in
+    loads 4 (a .state .now) (a .info .now) (a .answer .now) _ _ (c .before .before .before .before .before .before .ready-to-answer .ensures) (not-false (c .before .before .before .before .before .before .ready-to-answer .result) (c .before .before .before .if1 .left)) .0
 
-step-requires : tie.Need-step-requires
-step-requires c κs = search needs
-
-of-reply-requires : tie.Need-of-reply-requires
-of-reply-requires c κs = search needs
-
-leave-requires : tie.Need-leave-requires
-leave-requires c κs =
-    let a = c .before .before .before .before .before .before .before .before .before .before .before .before .before .before .before .before .before .before .before .before .before .before .before .before .before .args in
-    let l = loads 4 (a .state .now) (a .info .now) (a .answer .now) _ _ (c .before .before .before .before .before .before .before .before .before .before .before .before .before .before .before .before .ready-to-answer .ensures) (not-false (c .before .before .before .before .before .before .before .before .before .before .before .before .before .before .before .before .ready-to-answer .result) (c .before .before .before .before .before .before .before .before .before .before .before .before .before .if1 .left)) in
-    (l .0 .all-words, l .1)
+answer-with-requires : tie.Need-answer-with-requires
+answer-with-requires c κs =
+    let a = c .before .before .before .before .before .before .before .before .before .before .before .before .before .before .before .before .before .before .before .before .before .before .before .args in
+    loads 4 (a .state .now) (a .info .now) (a .answer .now) _ _ (c .before .before .before .before .before .before .before .before .before .before .before .before .before .before .ready-to-answer .ensures) (not-false (c .before .before .before .before .before .before .before .before .before .before .before .before .before .before .ready-to-answer .result) (c .before .before .before .before .before .before .before .before .before .before .before .if1 .left)) .1
 
 same-length-3 : tie.Need-same-length-3
 same-length-3 c = search needs
@@ -51,9 +44,9 @@ same-length-6 c = search needs
 
 returns-2 : tie.Need-returns-2
 returns-2 c =
-    let a = c .before .before .before .before .before .before .before .before .before .before .before .before .before .before .before .before .before .before .before .before .before .before .before .before .before .before .before .before .before .before .args in
-    answered (callOf (a .call) (a .bytes .now)) 4 (c .before .before .before .before .before .before .before .before .before .before .before .before .before .before .before .before .before .before .before .before .before .before .before .before .before .before .before .before .before .before .pre .0) (a .state .now) (a .info .now) (a .image .now) (a .staging .now) (a .answer .now) _ _ (c .before .before .before .before .before .before .before .before .before .before .before .before .before .before .before .before .before .before .before .before .before .ready-to-answer .ensures) (c .before .before .before .before .before .before .before .before .before .before .before .before .before .before .before .before .before .before .before .before .before .before .before .before .before .before .before .before .before .before .pre .1) (not-false (c .before .before .before .before .before .before .before .before .before .before .before .before .before .before .before .before .before .before .before .before .before .ready-to-answer .result) (c .before .before .before .before .before .before .before .before .before .before .before .before .before .before .before .before .before .before .if1 .left)) _ _ _ _ _ _ _ _ _
-    (c .before .before .before .before .before .before .before .before .before .before .before .before .before .before .before .before .load .ensures) (c .before .before .before .before .before .before .before .before .before .before .before .before .before .step .ensures) (c .before .before .before .before .before .of-reply .ensures) (c .before .before .before .before .leave .ensures)
+    let a = c .before .before .before .before .before .before .before .before .before .before .before .before .before .before .before .before .before .before .before .before .before .before .before .before .before .before .args in
+    answered (callOf (a .call) (a .bytes .now)) 4 (c .before .before .before .before .before .before .before .before .before .before .before .before .before .before .before .before .before .before .before .before .before .before .before .before .before .before .pre .0) (a .state .now) (a .info .now) (a .image .now) (a .staging .now) (a .answer .now) _ _ (c .before .before .before .before .before .before .before .before .before .before .before .before .before .before .before .before .before .ready-to-answer .ensures) (c .before .before .before .before .before .before .before .before .before .before .before .before .before .before .before .before .before .before .before .before .before .before .before .before .before .before .pre .1) (not-false (c .before .before .before .before .before .before .before .before .before .before .before .before .before .before .before .before .before .ready-to-answer .result) (c .before .before .before .before .before .before .before .before .before .before .before .before .before .before .if1 .left)) _ _ _ _ _ _
+    (c .before .before .before .before .before .before .before .before .before .before .make .ensures) (c .before .before .answer-with .ensures .0) (c .before .before .answer-with .ensures .1)
 
 pub call-and-answer-spec : {M : Type 1} → statement M
 call-and-answer-spec =
@@ -63,10 +56,8 @@ call-and-answer-spec =
     same-length
     same-length-2
     returns
-    load-requires
-    step-requires
-    of-reply-requires
-    leave-requires
+    make-requires
+    answer-with-requires
     same-length-3
     same-length-4
     same-length-5
