@@ -5,7 +5,7 @@ use native.Mathlib.Omega.{arith}
 use mathlib.Core.Path.{_≡_, refl, ap, _∙_}
 use mathlib.Core.List.{List, [], _∷_, _++_}
 use lib.ListN.{length, take, drop, set, length-append}
-use lib.Seq.{sets-eq, length-sets, take-set-le, take-at, length-take-le}
+use lib.Seq.{sets-eq, length-sets, take-set-le, drop-set-lt, take-at, length-take-le}
 use Rattle.lists.specs.Lay.{lay}
 
 pub length-lay : (l : List ℕ) (i : ℕ) (xs : List ℕ) → length (lay l i xs) ≡ length l
@@ -27,6 +27,12 @@ pub take-lay : (l : List ℕ) (i : ℕ) (xs : List ℕ) (j : ℕ) → j ≤ i �
 unfolding lay
 take-lay l i [] j h = refl
 take-lay l i (x ∷ xs) j h = take-lay (set l i x) (suc i) xs j (omega arith) ∙ take-set-le j l i x h
+
+-- and what lies behind it
+pub drop-lay : (l : List ℕ) (i : ℕ) (xs : List ℕ) (k : ℕ) → i + length xs ≤ k → drop k (lay l i xs) ≡ drop k l
+unfolding lay
+drop-lay l i [] k h = refl
+drop-lay l i (x ∷ xs) k h = drop-lay (set l i x) (suc i) xs k (omega arith) ∙ drop-set-lt k l i x (omega arith)
 
 -- the whole buffer, where the bytes fit
 pub lay-fits : (l : List ℕ) (i : ℕ) (xs : List ℕ) → i + length xs ≤ length l → lay l i xs ≡ take i l ++ xs ++ drop (i + length xs) l

@@ -20,14 +20,12 @@ module _ {long fits : Bool} where
   pub too-short : {answer : List ℕ} → long ≡ false → Starts long fits answer false answer
   too-short e = record { made-is = rw e; answer-is = rw e }
 
-  pub out-of-range : {answer answer′ : List ℕ} → long ≡ true → fits ≡ false → answer′ ≡ lay answer 0 (replicate 4 0) → Starts long fits answer false answer′
-  out-of-range e f g = record { made-is = rw (e, f); answer-is = rw e g }
-
-  pub in-range : {answer : List ℕ} → long ≡ true → fits ≡ true → Starts long fits answer true answer
-  in-range e f = record { made-is = rw (e, f); answer-is = refl }
+  pub long-enough : {answer answer′ : List ℕ} {made : Bool} → long ≡ true → made ≡ fits → answer′ ≡ cond made answer (lay answer 0 (replicate 4 0))
+      → Starts long fits answer made answer′
+  long-enough e f g = record { made-is = rw (e, f); answer-is = rw e g }
 
   pub no-answer : (made : Bool) → long ≡ true → made ≡ fits → Starts long fits [] made []
-  no-answer made e f = record { made-is = rw (e, f); answer-is = rw e (nothing made) }
+  no-answer made e f = long-enough e f (nothing made)
     where
       nothing : (b : Bool) → [] ≡ cond b [] (lay [] 0 (replicate 4 0))
       nothing true = refl

@@ -1,12 +1,12 @@
 -- What every writer call across the boundary keeps: any two outcomes that are allowed are equal; a refusal changes no state word and no byte of a
 -- buffer; words past those that are named stay.
-use Prim.Native.Nat.{ℕ, zero, suc, _+_, _≤_}
+use Prim.Native.Nat.{ℕ, zero, suc, _≤_}
 use native.Mathlib.Omega.{arith}
 use mathlib.Core.Path.{_≡_, refl, ap, sym, _∙_}
-use mathlib.Core.List.{List, [], _∷_}
-use lib.ListN.{length, drop, set, replicate, length-take}
-use lib.Seq.{drop-set-lt}
+use mathlib.Core.List.{List}
+use lib.ListN.{length, drop, replicate, length-take}
 use Rattle.lists.specs.Lay.{lay}
+use Rattle.lists.specs.LayLaws.{drop-lay}
 use Rattle.lists.specs.Answers.{Answer, accepted, refused, numberOf, obey}
 use Rattle.lists.specs.ChoiceLaws.{either, obeyed}
 use Rattle.log_file.specs.State.{Machine, machine}
@@ -83,12 +83,6 @@ module _ (c : Call) (state info image staging answer : List ℕ) where
       (ap (λ (l : Left). l .state) e ∙ k .state-kept, ap (λ (l : Left). l .image) e ∙ k .image-kept, ap (λ (l : Left). l .staging) e ∙ k .staging-kept)
 
 -- ---- words past those that are named stay
-
--- what lies behind a store stays
-pub drop-lay : (l : List ℕ) (i : ℕ) (xs : List ℕ) (k : ℕ) → i + length xs ≤ k → drop k (lay l i xs) ≡ drop k l
-unfolding lay
-drop-lay l i [] k h = refl
-drop-lay l i (x ∷ xs) k h = drop-lay (set l i x) (suc i) xs k (omega arith) ∙ drop-set-lt k l i x (omega arith)
 
 pub length-answerWords : (a : Answer) → length (answerWords a) ≤ 4
 length-answerWords (accepted values) = simp length-take (omega arith)

@@ -7,6 +7,7 @@ use mathlib.Core.Bool.{Bool, false, cond}
 use mathlib.Core.List.{List}
 use lib.ListN.{drop, replicate}
 use Rattle.lists.specs.Lay.{lay}
+use Rattle.lists.specs.LayLaws.{drop-lay}
 use Rattle.lists.specs.Answers.{numberOf}
 use Rattle.lists.specs.ChoiceLaws.{either}
 use Rattle.segment_reader.specs.Calls.{Call, Step, answerOf, readBy}
@@ -14,7 +15,7 @@ use Rattle.okaywal_segment.specs.Words.{answerWords}
 use Rattle.okaywal_segment.specs.ReaderWords.{readerWords, readerFrom, readerFits}
 use Rattle.okaywal_segment.specs.ReaderWordsLaws.{length-readerWords}
 use Rattle.okaywal_segment.specs.Steps.{enoughToRead}
-use Rattle.okaywal_segment.specs.CrossingLaws.{drop-lay, length-answerWords}
+use Rattle.okaywal_segment.specs.CrossingLaws.{length-answerWords}
 use Rattle.okaywal_segment.specs.ReaderCrossing.{Read, read, wanted, moves, passes, restated, handed, crossed, ReaderAllows}
 
 -- ---- one answer: the number and every slice

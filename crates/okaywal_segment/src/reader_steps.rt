@@ -10,8 +10,8 @@ ghost use Rattle.okaywal_segment.specs.ReaderSteps.{Restates, Leaves};
 use crate::reader_words::fits;
 use crate::reader_words::save;
 use crate::steps::answer_with;
+use crate::steps::zeros_unless;
 use crate::words::Reply;
-use crate::words::put;
 use segment_reader::SegmentReader;
 
 // Whether no slice is too short.
@@ -35,14 +35,9 @@ pub(crate) fn ready(state: &[u64]) -> bool
 pub(crate) fn ready_to_answer(state: &[u64], answer: &mut [u64]) -> bool
     ensures { λ r. ⌜ Starts (enoughToRead 4 (now (state .entry)) (now (answer .entry))) (readerFits (now (state .entry))) (now (answer .entry)) r (now (answer .exit)) ⌝ }
 {
-    if !enough(state.len(), answer.len(), 4) {
-        return false;
+    if enough(state.len(), answer.len(), 4) {
+        return zeros_unless(fits(state), answer);
     }
-    if fits(state) {
-        return true;
-    }
-    let zeros = [0u64; 4];
-    put(answer, &zeros);
     false
 }
 

@@ -1,11 +1,12 @@
 // The steps that every call across the boundary takes: whether it is made at all, and what it leaves.
 ghost use mathlib.Core.Path.{_≡_};
+ghost use mathlib.Core.Bool.{cond};
 ghost use mathlib.Core.List.{[]};
 ghost use Prim.Native.Nat.{_≤_};
-ghost use lib.ListN.{length};
+ghost use lib.ListN.{length, replicate};
 ghost use lib.Dec.{leb};
 ghost use Rattle.lists.specs.Lay.{lay};
-ghost use Rattle.okaywal_segment.specs.Steps.{longEnough, enough as enoughLent, Starts, Restates, Leaves};
+ghost use Rattle.okaywal_segment.specs.Steps.{longEnough, enough as enoughLent, Starts, Restates};
 ghost use Rattle.okaywal_segment.specs.WriterWords.{writerFits};
 use crate::words::Reply;
 use crate::words::put;
@@ -30,18 +31,25 @@ pub(crate) fn ready(state: &[u64], info: &[u8]) -> bool
     false
 }
 
+// Four zeros in the answer, unless the words are in their ranges. Returns whether they are.
+pub(crate) fn zeros_unless(fit: bool, answer: &mut [u64]) -> bool
+    requires { ⌜ 4 ≤ length (now answer) ⌝ }
+    ensures { λ r. ⌜ (r ≡ fit) × (now (answer .exit) ≡ cond r (now (answer .entry)) (lay (now (answer .entry)) 0 (replicate 4 0))) ⌝ }
+{
+    if !fit {
+        let zeros = [0u64; 4];
+        put(answer, &zeros);
+    }
+    fit
+}
+
 // The same for a call with an answer, which gets four zeros where a word is out of its range.
 pub(crate) fn ready_to_answer(state: &[u64], info: &[u8], answer: &mut [u64]) -> bool
     ensures { λ r. ⌜ Starts (enoughLent 4 (now (state .entry)) (now (info .entry)) (now (answer .entry))) (writerFits (now (state .entry))) (now (answer .entry)) r (now (answer .exit)) ⌝ }
 {
-    if !enough(state.len(), info.len(), answer.len(), 4) {
-        return false;
+    if enough(state.len(), info.len(), answer.len(), 4) {
+        return zeros_unless(fits(state), answer);
     }
-    if fits(state) {
-        return true;
-    }
-    let zeros = [0u64; 4];
-    put(answer, &zeros);
     false
 }
 
@@ -64,13 +72,4 @@ pub(crate) fn answer_with(answer: &mut [u64], reply: Reply) -> u64
     let words = reply.words;
     put(answer, &words);
     reply.number
-}
-
-// Writes the words of the answer, and every state word anew unless the call was refused. Returns the number.
-pub(crate) fn leave(state: &mut [u64], answer: &mut [u64], w: LogFileWriter, reply: Reply) -> u64
-    requires { ⌜ (16 ≤ length (now state)) × (4 ≤ length (now answer)) ⌝ }
-    ensures { λ r. ⌜ Leaves (now (state .entry)) (now (answer .entry)) w reply r (now (state .exit)) (now (answer .exit)) ⌝ }
-{
-    let number = answer_with(answer, reply);
-    restate(state, w, number)
 }

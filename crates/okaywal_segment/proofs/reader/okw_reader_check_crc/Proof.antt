@@ -1,6 +1,7 @@
 -- Not made, or the check; nothing moves.
 use borrow.Author.Tests.{not-true, not-false}
 use Rattle.okaywal_segment.proofs.ReaderWays.{loads, not-called, checked}
+use mathlib.Core.Path.{refl}
 use Rattle.segment_reader.specs.Calls.{crcCheck}
 use borrow.Author.Needs.{needs}
 use Rattle.okaywal_segment.proofs.reader.okw_reader_check_crc.Statement.{statement}
@@ -15,7 +16,7 @@ same-length c = search needs
 returns : tie.Need-returns
 returns c =
     let a = c .before .before .before .before .before .before .before .before .args in
-    not-called crcCheck (a .state .now) (a .image .now) (a .answer .now) _ _ (c .before .before .before .ready-to-answer .ensures) (not-true (c .before .before .before .ready-to-answer .result) (c .if1 .taken))
+    not-called crcCheck 4 refl (a .state .now) (a .image .now) (a .answer .now) _ _ (c .before .before .before .ready-to-answer .ensures) (not-true (c .before .before .before .ready-to-answer .result) (c .if1 .taken))
 
 load-requires : tie.Need-load-requires
 load-requires c κs =

@@ -1,7 +1,7 @@
 -- Not made, or the call and what it leaves.
 use borrow.Author.Tests.{not-true, not-false}
 use mathlib.Core.List.{[]}
-use Rattle.okaywal_segment.proofs.ReaderWays.{loads, not-called, unanswered}
+use Rattle.okaywal_segment.proofs.ReaderWays.{loads, not-called, skipped}
 use mathlib.Core.Path.{refl}
 use Rattle.segment_reader.specs.Calls.{readBy, skipRest}
 use borrow.Author.Needs.{needs}
@@ -17,7 +17,7 @@ same-length c = search needs
 returns : tie.Need-returns
 returns c =
     let a = c .before .before .before .before .before .args in
-    not-called skipRest (a .state .now) (a .image .now) [] _ _ (c .before .ready .ensures) (not-true (c .before .ready .result) (c .if1 .taken))
+    not-called skipRest 0 refl (a .state .now) (a .image .now) [] _ _ (c .before .ready .ensures) (not-true (c .before .ready .result) (c .if1 .taken))
 
 load-requires : tie.Need-load-requires
 load-requires c κs =
@@ -42,7 +42,7 @@ returns-2 : tie.Need-returns-2
 unfolding readBy
 returns-2 c =
     let a = c .before .before .before .before .before .before .before .before .before .before .before .before .before .before .args in
-    unanswered skipRest (a .state .now) (a .image .now) _ (c .before .before .before .before .before .before .before .before .before .before .ready .ensures) refl (not-false (c .before .before .before .before .before .before .before .before .before .before .ready .result) (c .before .before .before .before .before .before .before .before .before .if1 .left)) _ _ _ _ _ _
+    skipped (a .state .now) (a .image .now) _ (c .before .before .before .before .before .before .before .before .before .before .ready .ensures) (not-false (c .before .before .before .before .before .before .before .before .before .before .ready .result) (c .before .before .before .before .before .before .before .before .before .if1 .left)) _ _ _ _ _ _
     (c .before .before .before .before .before .before .before .load .ensures) (c .before .before .before .before .before .before .skip-remaining-bytes .ensures) (c .before .before .before .number-of-skip .ensures) (c .before .before .restate .ensures)
 
 pub okw-reader-skip-spec : {M : Type 1} → statement M
