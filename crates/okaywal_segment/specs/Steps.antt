@@ -6,13 +6,10 @@ use mathlib.Core.List.{List, [], _∷_}
 use lib.ListN.{length, replicate}
 use lib.Dec.{leb}
 use Rattle.lists.specs.Lay.{lay}
-use Rattle.lists.specs.Answers.{numberOf, all, obey}
+use Rattle.lists.specs.Answers.{all, obey}
 use Rattle.log_file.specs.declared.LogFileWriter.{LogFileWriter}
-use Rattle.log_file.specs.State.{machine}
-use Rattle.log_file.specs.Calls.{Call, Called, called}
 use Rattle.okaywal_segment.specs.declared.words.Reply.{Reply}
-use Rattle.okaywal_segment.specs.Words.{inWords}
-use Rattle.okaywal_segment.specs.WriterWords.{writerWords, writerFrom}
+use Rattle.okaywal_segment.specs.WriterWords.{writerWords}
 
 -- no slice is too short
 abbrev pub longEnough : (wants state info answer : ℕ) → Bool
@@ -37,12 +34,7 @@ pub record Restates (state : List ℕ) (w : LogFileWriter) (number n : ℕ) (sta
   pub number-is : n ≡ number
   pub state-is : state′ ≡ obey number state (lay state 0 (writerWords w))
 
--- the call itself, and what it leaves
-abbrev pub written : (state : List ℕ) → Called → List ℕ
-written state r = obey (numberOf (r .answer)) state (lay state 0 (writerWords (r .machine′ .writer)))
-
-pub record Makes (c : Call) (state info image staging : List ℕ) (reply : Reply) (state′ image′ staging′ : List ℕ) : Type 0 where
-  pub reply-is : reply ≡ inWords ((called (machine (writerFrom state info) image staging) c) .answer)
-  pub state-is : state′ ≡ written state (called (machine (writerFrom state info) image staging) c)
-  pub image-is : image′ ≡ (called (machine (writerFrom state info) image staging) c) .machine′ .image
-  pub staging-is : staging′ ≡ (called (machine (writerFrom state info) image staging) c) .machine′ .staging
+pub record Leaves (state answer : List ℕ) (w : LogFileWriter) (reply : Reply) (n : ℕ) (state′ answer′ : List ℕ) : Type 0 where
+  pub number-is : n ≡ reply .number
+  pub state-is : state′ ≡ obey (reply .number) state (lay state 0 (writerWords w))
+  pub answer-is : answer′ ≡ lay answer 0 (reply .words)

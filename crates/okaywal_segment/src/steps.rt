@@ -6,7 +6,7 @@ ghost use Prim.Native.Nat.{_≤_};
 ghost use lib.ListN.{length, replicate};
 ghost use lib.Dec.{leb};
 ghost use Rattle.lists.specs.Lay.{lay};
-ghost use Rattle.okaywal_segment.specs.Steps.{longEnough, enough as enoughLent, Starts, Restates};
+ghost use Rattle.okaywal_segment.specs.Steps.{longEnough, enough as enoughLent, Starts, Restates, Leaves};
 ghost use Rattle.okaywal_segment.specs.WriterWords.{writerFits};
 use crate::words::Reply;
 use crate::words::put;
@@ -72,4 +72,13 @@ pub(crate) fn answer_with(answer: &mut [u64], reply: Reply) -> u64
     let words = reply.words;
     put(answer, &words);
     reply.number
+}
+
+// Writes the words of the answer, and every state word anew unless the call was refused. Returns the number.
+pub(crate) fn leave(state: &mut [u64], answer: &mut [u64], w: LogFileWriter, reply: Reply) -> u64
+    requires { ⌜ (16 ≤ length (now state)) × (4 ≤ length (now answer)) ⌝ }
+    ensures { λ r. ⌜ Leaves (now (state .entry)) (now (answer .entry)) w reply r (now (state .exit)) (now (answer .exit)) ⌝ }
+{
+    let number = answer_with(answer, reply);
+    restate(state, w, number)
 }

@@ -5,14 +5,16 @@ ghost use lib.ListN.{length};
 ghost use Rattle.lists.specs.Lay.{lay};
 ghost use Rattle.lists.specs.Answers.{refused as refusal, numberOf};
 ghost use Rattle.buffered.specs.Seek.{landedAs};
-ghost use Rattle.log_file.specs.Promises.{answeredAs};
-ghost use Rattle.journal.specs.Step.{repliedAs};
+ghost use Rattle.log_file.specs.Promises.{answeredAs, writtenAs, finishedAs, committedAs};
 ghost use Rattle.entry.specs.Position.{serializedAs, deserializedAs};
 ghost use Rattle.okaywal_segment.specs.Words.{inWords};
 use buffered::seek::Landing;
 use entry::Deserialized;
 use entry::Serialized;
 use log_file::Answer;
+use log_file::entries::CommitAnswer;
+use log_file::entries::FinishAnswer;
+use log_file::entries::WriteAnswer;
 
 // 0 or the number of a refusal, and the words of the answer.
 pub(crate) struct Reply {
@@ -52,28 +54,47 @@ pub(crate) fn number_of(answer: Answer) -> u64
     }
 }
 
-// The values that a writer's call reports.
-pub(crate) fn of_reply(reply: journal::Reply) -> Reply
-    ensures { λ r. ⌜ r ≡ inWords (repliedAs reply) ⌝ }
+// The bytes taken.
+pub(crate) fn of_write(answer: WriteAnswer) -> Reply
+    ensures { λ r. ⌜ r ≡ inWords (writtenAs answer) ⌝ }
 {
-    match reply {
-        journal::Reply::Accepted => Reply {
+    match answer {
+        WriteAnswer::Taken(count) => Reply {
             number: 0,
-            words: [0u64; 4],
+            words: [count as u64, 0, 0, 0],
         },
-        journal::Reply::One(a) => Reply {
+        WriteAnswer::Refused(no) => refused(no),
+    }
+}
+
+// File id, offset of the 02, CRC, length.
+pub(crate) fn of_finish(answer: FinishAnswer) -> Reply
+    ensures { λ r. ⌜ r ≡ inWords (finishedAs answer) ⌝ }
+{
+    match answer {
+        FinishAnswer::Chunk(chunk) => Reply {
             number: 0,
-            words: [a, 0, 0, 0],
+            words: [
+                chunk.position.file_id,
+                chunk.position.offset,
+                chunk.crc as u64,
+                chunk.length as u64,
+            ],
         },
-        journal::Reply::Two(a, b) => Reply {
+        FinishAnswer::Refused(no) => refused(no),
+    }
+}
+
+// Entry id, logical position.
+pub(crate) fn of_commit(answer: CommitAnswer) -> Reply
+    ensures { λ r. ⌜ r ≡ inWords (committedAs answer) ⌝ }
+{
+    match answer {
+        CommitAnswer::Entry { id, length } => Reply {
             number: 0,
-            words: [a, b, 0, 0],
+            words: [id, length as u64, 0, 0],
         },
-        journal::Reply::Four(a, b, c, d) => Reply {
-            number: 0,
-            words: [a, b, c, d],
-        },
-        journal::Reply::Refused(no) => refused(no),
+        CommitAnswer::Refused(no) => refused(no),
     }
 }
 

@@ -1,80 +1,18 @@
 // The writer's calls. Each is refused with 12 where a slice is too short, before all else, and nothing is stored anywhere; with 12 where a word is out
 // of its range; and as the call itself is. An accepted one writes every state word anew. A refused one changes no state word and no byte of a buffer.
 ghost use mathlib.Core.Path.{_≡_};
-ghost use mathlib.Core.Bool.{true};
 ghost use mathlib.Core.List.{[]};
 ghost use Rattle.log_file.specs.Calls.{landing};
-ghost use Rattle.journal.specs.Step.{callOf};
-ghost use Rattle.okaywal_segment.specs.WriterWords.{Loads};
-ghost use Rattle.okaywal_segment.specs.Steps.{Makes};
-ghost use Rattle.okaywal_segment.specs.Crossing.{wanted, moves, WriterAllows};
+ghost use Rattle.okaywal_segment.specs.Crossing.{WriterAllows};
 ghost use Rattle.okaywal_segment.specs.WriterPromises.{BeginAllows, BeginChunkAllows, WriteAllows, FinishAllows, CommitAllows, RollbackAllows, RecycleAllows, FlushAllows, SyncAllows, LandStartAllows, LandEndAllows, LandCurrentAllows};
 use crate::steps::answer_with;
+use crate::steps::leave;
 use crate::steps::ready;
 use crate::steps::ready_to_answer;
 use crate::steps::restate;
 use crate::words;
-use crate::words::Reply;
 use crate::writer_words::load;
 use buffered::seek::SeekFrom;
-use journal::Call;
-
-// ---- any call: words to a state, the call, a state to words
-
-// Makes the call; writes every state word anew, unless it was refused. Returns the answer in words. `bytes` is what a write offers.
-fn make(
-    state: &mut [u64],
-    info: &[u8],
-    image: &mut [u8],
-    staging: &mut [u8],
-    call: Call,
-    bytes: &[u8],
-) -> Reply
-    requires { ⌜ Loads (now state) (now info) ⌝ }
-    ensures { λ r. ⌜ Makes (callOf call (now (bytes .entry))) (now (state .entry)) (now (info .entry)) (now (image .entry)) (now (staging .entry)) r (now (state .exit)) (now (image .exit)) (now (staging .exit)) ⌝ }
-{
-    let w = load(state, info);
-    let done = journal::step(w, image, staging, call, bytes);
-    let next = done.writer;
-    let said = done.answer;
-    let reply = words::of_reply(said);
-    restate(state, next, reply.number);
-    reply
-}
-
-// A call that answers nothing.
-fn call(state: &mut [u64], info: &[u8], image: &mut [u8], staging: &mut [u8], call: Call) -> u64
-    requires { ⌜ (wanted (callOf call []) ≡ 0) × (moves (callOf call []) ≡ true) ⌝ }
-    ensures { λ r. ⌜ WriterAllows (callOf call []) (now (state .entry)) (now (info .entry)) (now (image .entry)) (now (staging .entry)) [] r (now (state .exit)) (now (image .exit)) (now (staging .exit)) [] ⌝ }
-{
-    if !ready(state, info) {
-        return 12;
-    }
-    let reply = make(state, info, image, staging, call, &[]);
-    reply.number
-}
-
-// A call that answers.
-fn call_and_answer(
-    state: &mut [u64],
-    info: &[u8],
-    image: &mut [u8],
-    staging: &mut [u8],
-    call: Call,
-    bytes: &[u8],
-    answer: &mut [u64],
-) -> u64
-    requires { ⌜ (wanted (callOf call (now bytes)) ≡ 4) × (moves (callOf call (now bytes)) ≡ true) ⌝ }
-    ensures { λ r. ⌜ WriterAllows (callOf call (now (bytes .entry))) (now (state .entry)) (now (info .entry)) (now (image .entry)) (now (staging .entry)) (now (answer .entry)) r (now (state .exit)) (now (image .exit)) (now (staging .exit)) (now (answer .exit)) ⌝ }
-{
-    if !ready_to_answer(state, info, answer) {
-        return 12;
-    }
-    let reply = make(state, info, image, staging, call, bytes);
-    answer_with(answer, reply)
-}
-
-// ---- the calls that move the writer
 
 // Begins an entry. Refused with 12, 6 unless idle, 7 where the id is below the segment's, 5 where there is no room.
 #[no_mangle]
@@ -87,7 +25,14 @@ pub extern "C" fn okw_writer_begin(
 ) -> u64
     ensures { λ r. ⌜ BeginAllows (now (state .entry)) (now (info .entry)) (now (image .entry)) (now (staging .entry)) «entry_id» r (now (state .exit)) (now (image .exit)) (now (staging .exit)) ⌝ }
 {
-    call(state, info, image, staging, Call::BeginEntry(entry_id))
+    if !ready(state, info) {
+        return 12;
+    }
+    let w = load(state, info);
+    let done = log_file::entries::begin_entry(w, image, staging, entry_id);
+    let next = done.writer;
+    let said = done.answer;
+    restate(state, next, words::number_of(said))
 }
 
 // Begins a chunk of length bytes. Refused with 12, 6 unless in an entry with no chunk open, 5 where there is no room.
@@ -101,7 +46,14 @@ pub extern "C" fn okw_writer_begin_chunk(
 ) -> u64
     ensures { λ r. ⌜ BeginChunkAllows (now (state .entry)) (now (info .entry)) (now (image .entry)) (now (staging .entry)) length r (now (state .exit)) (now (image .exit)) (now (staging .exit)) ⌝ }
 {
-    call(state, info, image, staging, Call::BeginChunk(length))
+    if !ready(state, info) {
+        return 12;
+    }
+    let w = load(state, info);
+    let done = log_file::entries::begin_chunk(w, image, staging, length);
+    let next = done.writer;
+    let said = done.answer;
+    restate(state, next, words::number_of(said))
 }
 
 // Takes the first min(offered, owed) bytes, and answers their number. Refused with 12, 6 unless in a chunk.
@@ -116,7 +68,14 @@ pub extern "C" fn okw_writer_write(
 ) -> u64
     ensures { λ r. ⌜ WriteAllows (now (state .entry)) (now (info .entry)) (now (image .entry)) (now (staging .entry)) (now (bytes .entry)) (now (answer .entry)) r (now (state .exit)) (now (image .exit)) (now (staging .exit)) (now (answer .exit)) ⌝ }
 {
-    call_and_answer(state, info, image, staging, Call::Write, bytes, answer)
+    if !ready_to_answer(state, info, answer) {
+        return 12;
+    }
+    let w = load(state, info);
+    let done = log_file::entries::write(w, image, staging, bytes);
+    let next = done.writer;
+    let said = done.answer;
+    leave(state, answer, next, words::of_write(said))
 }
 
 // Finishes the open chunk: file id, offset of the 02, CRC, length. Refused with 12, 6 unless in a chunk, 8 with bytes owed.
@@ -130,7 +89,14 @@ pub extern "C" fn okw_writer_finish(
 ) -> u64
     ensures { λ r. ⌜ FinishAllows (now (state .entry)) (now (info .entry)) (now (image .entry)) (now (staging .entry)) (now (answer .entry)) r (now (state .exit)) (now (image .exit)) (now (staging .exit)) (now (answer .exit)) ⌝ }
 {
-    call_and_answer(state, info, image, staging, Call::Finish, &[], answer)
+    if !ready_to_answer(state, info, answer) {
+        return 12;
+    }
+    let w = load(state, info);
+    let done = log_file::entries::finish(w, image, staging);
+    let next = done.writer;
+    let said = done.answer;
+    leave(state, answer, next, words::of_finish(said))
 }
 
 // Commits the entry: its id, and the logical position behind it. Refused with 12, 6 unless in an entry with no chunk open.
@@ -144,7 +110,14 @@ pub extern "C" fn okw_writer_commit(
 ) -> u64
     ensures { λ r. ⌜ CommitAllows (now (state .entry)) (now (info .entry)) (now (image .entry)) (now (staging .entry)) (now (answer .entry)) r (now (state .exit)) (now (image .exit)) (now (staging .exit)) (now (answer .exit)) ⌝ }
 {
-    call_and_answer(state, info, image, staging, Call::Commit, &[], answer)
+    if !ready_to_answer(state, info, answer) {
+        return 12;
+    }
+    let w = load(state, info);
+    let done = log_file::entries::commit(w, image, staging);
+    let next = done.writer;
+    let said = done.answer;
+    leave(state, answer, next, words::of_commit(said))
 }
 
 // Goes back to the entry's start, also from inside a chunk. Refused with 12, 6 when idle.
@@ -157,7 +130,14 @@ pub extern "C" fn okw_writer_rollback(
 ) -> u64
     ensures { λ r. ⌜ RollbackAllows (now (state .entry)) (now (info .entry)) (now (image .entry)) (now (staging .entry)) r (now (state .exit)) (now (image .exit)) (now (staging .exit)) ⌝ }
 {
-    call(state, info, image, staging, Call::Rollback)
+    if !ready(state, info) {
+        return 12;
+    }
+    let w = load(state, info);
+    let done = log_file::entries::rollback(w, image, staging);
+    let next = done.writer;
+    let said = done.answer;
+    restate(state, next, words::number_of(said))
 }
 
 // Begins the segment anew under another id. Refused with 12, 6 unless idle.
@@ -171,7 +151,14 @@ pub extern "C" fn okw_writer_recycle(
 ) -> u64
     ensures { λ r. ⌜ RecycleAllows (now (state .entry)) (now (info .entry)) (now (image .entry)) (now (staging .entry)) «new_id» r (now (state .exit)) (now (image .exit)) (now (staging .exit)) ⌝ }
 {
-    call(state, info, image, staging, Call::Recycle(new_id))
+    if !ready(state, info) {
+        return 12;
+    }
+    let w = load(state, info);
+    let done = log_file::file::recycle(w, image, staging, new_id);
+    let next = done.writer;
+    let said = done.answer;
+    restate(state, next, words::number_of(said))
 }
 
 // Staged bytes go to the image. Refused with 12.
@@ -184,7 +171,14 @@ pub extern "C" fn okw_writer_flush(
 ) -> u64
     ensures { λ r. ⌜ FlushAllows (now (state .entry)) (now (info .entry)) (now (image .entry)) (now (staging .entry)) r (now (state .exit)) (now (image .exit)) (now (staging .exit)) ⌝ }
 {
-    call(state, info, image, staging, Call::Flush)
+    if !ready(state, info) {
+        return 12;
+    }
+    let w = load(state, info);
+    let done = log_file::file::flush(w, image, staging);
+    let next = done.writer;
+    let said = done.answer;
+    restate(state, next, words::number_of(said))
 }
 
 // Notes that everything below target is on the device, after a flush where that is wanted. Refused with 12.
@@ -198,7 +192,14 @@ pub extern "C" fn okw_writer_sync(
 ) -> u64
     ensures { λ r. ⌜ SyncAllows (now (state .entry)) (now (info .entry)) (now (image .entry)) (now (staging .entry)) target r (now (state .exit)) (now (image .exit)) (now (staging .exit)) ⌝ }
 {
-    call(state, info, image, staging, Call::Synchronize(target))
+    if !ready(state, info) {
+        return 12;
+    }
+    let w = load(state, info);
+    let done = log_file::file::synchronize(w, image, staging, target);
+    let next = done.writer;
+    let said = done.answer;
+    restate(state, next, words::number_of(said))
 }
 
 // ---- landing places: nothing moves, and no state word is written

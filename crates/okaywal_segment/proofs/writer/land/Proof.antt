@@ -1,7 +1,6 @@
 -- Not made, or the landing place.
 use borrow.Author.Tests.{not-true, not-false}
 use Rattle.okaywal_segment.proofs.Ways.{loads, not-called, landed}
-use mathlib.Core.Path.{refl}
 use Rattle.log_file.specs.Calls.{landing}
 use borrow.Author.Needs.{needs}
 use Rattle.okaywal_segment.proofs.writer.land.Statement.{statement}
@@ -16,7 +15,7 @@ same-length c = search needs
 returns : tie.Need-returns
 returns c =
     let a = c .before .before .before .before .before .before .before .before .before .before .args in
-    not-called (landing (a .from)) 4 refl (a .state .now) (a .info .now) (a .image .now) (a .staging .now) (a .answer .now) _ _ (c .before .before .before .ready-to-answer .ensures) (not-true (c .before .before .before .ready-to-answer .result) (c .if1 .taken))
+    not-called (landing (a .from)) (a .state .now) (a .info .now) (a .image .now) (a .staging .now) (a .answer .now) _ _ (c .before .before .before .ready-to-answer .ensures) (not-true (c .before .before .before .ready-to-answer .result) (c .if1 .taken))
 
 load-requires : tie.Need-load-requires
 load-requires c κs =

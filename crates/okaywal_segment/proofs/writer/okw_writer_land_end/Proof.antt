@@ -10,12 +10,6 @@ use borrow.Author.Needs.{needs}
 use Rattle.okaywal_segment.proofs.writer.okw_writer_land_end.Statement.{statement}
 use Rattle.okaywal_segment.proofs.writer.okw_writer_land_end.Tie as tie
 
-land-requires : tie.Need-land-requires
-land-requires c κs = search needs
-
-same-length : tie.Need-same-length
-same-length c = search needs
-
 returns : tie.Need-returns
 returns c =
     let a = c .before .before .before .before .before .before .before .before .before .args in
@@ -23,4 +17,4 @@ returns c =
     ∙ ap (λ (z : ℤ). crossed (landing (End z)) (a .state .now) (a .info .now) (a .image .now) (a .staging .now) (a .answer .now)) (toZ-ofZ w64 (a .offset) (c .before .before .before .before .before .before .before .before .before .fits .offset))
 
 pub okw-writer-land-end-spec : {M : Type 1} → statement M
-okw-writer-land-end-spec = tie.close (tie.spec land-requires same-length returns)
+okw-writer-land-end-spec = tie.close (tie.spec (search needs) (search needs) returns)
