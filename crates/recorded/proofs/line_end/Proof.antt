@@ -5,13 +5,10 @@ use Rattle.text.specs.TextLaws.{place-le, place-ge}
 use Rattle.recorded.proofs.line_end.Statement.{statement}
 use Rattle.recorded.proofs.line_end.Tie as tie
 
-find-requires : tie.Need-find-requires
-find-requires c κs = search needs
-
 returns : tie.Need-returns
 returns c =
     let a = c .before .before .args in
     (omega (arith, place-ge (a .list .now) (a .at) 10 (omega arith)), omega (arith, place-le (a .list .now) (a .at) 10))
 
 pub line-end-spec : {M : Type 1} → statement M
-line-end-spec = tie.close (tie.spec find-requires returns)
+line-end-spec = tie.close (tie.spec (search needs) returns)

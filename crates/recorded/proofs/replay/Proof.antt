@@ -13,9 +13,6 @@ Inv-loop list image₀ staging₀ desk₀ at₀ image staging desk at = (at ≤ 
 abbrev μ-loop : tie.MeasureT-loop
 μ-loop list image₀ staging₀ desk₀ at₀ image staging desk at = length list + 1 - at
 
-closed-requires : tie.Need-closed-requires Inv-loop μ-loop
-closed-requires c κs = search needs
-
 loop-holds : tie.Need-loop-holds Inv-loop μ-loop
 loop-holds c = (omega arith, refl, refl)
 
@@ -30,9 +27,6 @@ part-answer-start c = omega arith
 
 part-answer-end : tie.Need-part-answer-end Inv-loop μ-loop
 part-answer-end c = omega arith
-
-answer-requires : tie.Need-answer-requires Inv-loop μ-loop
-answer-requires c κs = search needs
 
 add-at : tie.Need-add-at Inv-loop μ-loop
 add-at c = omega arith
@@ -49,25 +43,22 @@ same-length c = omega arith
 same-length-2 : tie.Need-same-length-2 Inv-loop μ-loop
 same-length-2 c = omega arith
 
-returns : tie.Need-returns Inv-loop μ-loop
-returns c = search needs
-
 pub replay-spec : {M : Type 1} → statement M
 replay-spec =
     tie.close
     (tie.spec
     Inv-loop
     μ-loop
-    closed-requires
+    (search needs)
     loop-holds
     line-end-requires
     sub-answer
     part-answer-start
     part-answer-end
-    answer-requires
+    (search needs)
     add-at
     loop-less
     loop-again
     same-length
     same-length-2
-    returns)
+    (search needs))

@@ -18,9 +18,6 @@ loop-holds c = omega arith
 shared-slice-read-put-character : tie.Need-shared-slice-read-put-character Inv-loop μ-loop
 shared-slice-read-put-character c = omega arith
 
-put-character-requires : tie.Need-put-character-requires Inv-loop μ-loop
-put-character-requires c κs = search needs
-
 add-i : tie.Need-add-i Inv-loop μ-loop
 add-i c = omega arith
 
@@ -30,9 +27,6 @@ loop-less c = omega arith
 loop-again : tie.Need-loop-again Inv-loop μ-loop
 loop-again c = omega arith
 
-returns : tie.Need-returns Inv-loop μ-loop
-returns c = search needs
-
 pub put-printed-spec : {M : Type 1} → statement M
 put-printed-spec =
-    tie.close (tie.spec Inv-loop μ-loop loop-holds shared-slice-read-put-character put-character-requires add-i loop-less loop-again returns)
+    tie.close (tie.spec Inv-loop μ-loop loop-holds shared-slice-read-put-character (search needs) add-i loop-less loop-again (search needs))

@@ -14,15 +14,6 @@ abbrev μ-loop : tie.MeasureT-loop
 loop-holds : tie.Need-loop-holds Inv-loop μ-loop
 loop-holds c = tt
 
-next-requires : tie.Need-next-requires Inv-loop μ-loop
-next-requires c κs = search needs
-
-is-over-requires : tie.Need-is-over-requires Inv-loop μ-loop
-is-over-requires c κs = search needs
-
-put-requires : tie.Need-put-requires Inv-loop μ-loop
-put-requires c κs = search needs
-
 sub-turns : tie.Need-sub-turns Inv-loop μ-loop
 sub-turns c = omega arith
 
@@ -32,12 +23,6 @@ loop-less c = omega arith
 loop-again : tie.Need-loop-again Inv-loop μ-loop
 loop-again c = tt
 
-returns : tie.Need-returns Inv-loop μ-loop
-returns c = search needs
-
-returns-2 : tie.Need-returns-2 Inv-loop μ-loop
-returns-2 c = search needs
-
 pub put-all-spec : {M : Type 1} → statement M
 put-all-spec =
     tie.close
@@ -45,11 +30,11 @@ put-all-spec =
     Inv-loop
     μ-loop
     loop-holds
-    next-requires
-    is-over-requires
-    put-requires
+    (search needs)
+    (search needs)
+    (search needs)
     sub-turns
     loop-less
     loop-again
-    returns
-    returns-2)
+    (search needs)
+    (search needs))

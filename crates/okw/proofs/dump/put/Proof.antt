@@ -18,9 +18,6 @@ loop-holds c = omega arith
 sub-smaller : tie.Need-sub-smaller Inv-loop μ-loop
 sub-smaller c = omega arith
 
-smaller-requires : tie.Need-smaller-requires Inv-loop μ-loop
-smaller-requires c κs = search needs
-
 add-end : tie.Need-add-end Inv-loop μ-loop
 add-end c = omega arith
 
@@ -33,20 +30,11 @@ part-put-row-start c = omega arith
 part-put-row-end : tie.Need-part-put-row-end Inv-loop μ-loop
 part-put-row-end c = omega arith
 
-plus-requires : tie.Need-plus-requires Inv-loop μ-loop
-plus-requires c κs = search needs
-
-put-row-requires : tie.Need-put-row-requires Inv-loop μ-loop
-put-row-requires c κs = search needs
-
 loop-less : tie.Need-loop-less Inv-loop μ-loop
 loop-less c = omega arith
 
 loop-again : tie.Need-loop-again Inv-loop μ-loop
 loop-again c = omega arith
-
-returns : tie.Need-returns Inv-loop μ-loop
-returns c = search needs
 
 pub put-spec : {M : Type 1} → statement M
 put-spec =
@@ -56,13 +44,13 @@ put-spec =
     μ-loop
     loop-holds
     sub-smaller
-    smaller-requires
+    (search needs)
     add-end
     sub-put-row
     part-put-row-start
     part-put-row-end
-    plus-requires
-    put-row-requires
+    (search needs)
+    (search needs)
     loop-less
     loop-again
-    returns)
+    (search needs))

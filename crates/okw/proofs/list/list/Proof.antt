@@ -13,26 +13,8 @@ Inv-loop image₀ outcome₀ i₀ pairs₀ image outcome i pairs = length image 
 abbrev μ-loop : tie.MeasureT-loop
 μ-loop image₀ outcome₀ i₀ pairs₀ image outcome i pairs = pairs
 
-of-requires : tie.Need-of-requires Inv-loop μ-loop
-of-requires c κs = search needs
-
-arg-count-requires : tie.Need-arg-count-requires Inv-loop μ-loop
-arg-count-requires c κs = search needs
-
 loop-holds : tie.Need-loop-holds Inv-loop μ-loop
 loop-holds c = refl
-
-list-file-requires : tie.Need-list-file-requires Inv-loop μ-loop
-list-file-requires c κs = search needs
-
-first-requires : tie.Need-first-requires Inv-loop μ-loop
-first-requires c κs = search needs
-
-after-requires : tie.Need-after-requires Inv-loop μ-loop
-after-requires c κs = search needs
-
-after-requires-2 : tie.Need-after-requires-2 Inv-loop μ-loop
-after-requires-2 c κs = search needs
 
 sub-pairs : tie.Need-sub-pairs Inv-loop μ-loop
 sub-pairs c = omega arith
@@ -46,24 +28,21 @@ loop-again c = omega arith
 same-length : tie.Need-same-length Inv-loop μ-loop
 same-length c = omega arith
 
-returns : tie.Need-returns Inv-loop μ-loop
-returns c = search needs
-
 pub list-spec : {M : Type 1} → statement M
 list-spec =
     tie.close
     (tie.spec
     Inv-loop
     μ-loop
-    of-requires
-    arg-count-requires
+    (search needs)
+    (search needs)
     loop-holds
-    list-file-requires
-    first-requires
-    after-requires
-    after-requires-2
+    (search needs)
+    (search needs)
+    (search needs)
+    (search needs)
     sub-pairs
     loop-less
     loop-again
     same-length
-    returns)
+    (search needs))
