@@ -1,4 +1,4 @@
--- For a seek: signed numbers, then where they land. For the loop that clears: the zeros that are left.
-pub mod Signed
-pub mod Landings
+-- What each step of staging does, and the laws that a write is proved by. For the loop that clears: the zeros that are left.
+pub mod StagingLaws
+pub mod Written
 pub mod Zeros

@@ -1,4 +1,6 @@
 // internal: what stands between the writer and its image (okaywal's buffered.rs). Image and staging are lent, the numbers go by value.
+#![tactic(auto)]
+
 ghost use Rattle.std.specs.Prelude.{◌≡◌, ◌+◌, ◌≤◌, length, take, drop, replicate};
 ghost use Rattle.lists.specs.Lay.{lay};
 ghost use Rattle.buffered.specs.Staging.{store, flushed, direct, staged, written, synchronized, numbers_back, Room};
@@ -6,7 +8,7 @@ ghost use Rattle.buffered.specs.Staging.{store, flushed, direct, staged, written
 pub mod seek;
 
 // The file's length and position, how many bytes are staged, and how much of the file is known to be on the device.
-#[derive(Drop)]
+#[derive(Clone, Copy)]
 pub struct Buffered {
     pub length: usize,
     pub position: usize,
@@ -24,6 +26,7 @@ fn put(image: &mut [u8], at: usize, bytes: &[u8])
 
 impl Buffered {
     // Staged bytes go to the image.
+    #[tactic(auto, unfolding(crate::specs::Staging::flushed))]
     pub fn flush(self, image: &mut [u8], staging: &[u8]) -> Buffered
         requires { Room (store image.old staging.now self) 0 }
         ensures { store image.new staging.now result ≡ flushed (store image.old staging.now self) }
@@ -40,6 +43,7 @@ impl Buffered {
     }
 
     // A write that is longer than the whole staging.
+    #[tactic(auto, unfolding(crate::specs::Staging::flushed, crate::specs::Staging::direct))]
     fn flush_direct(self, image: &mut [u8], staging: &[u8], bytes: &[u8]) -> Buffered
         requires { Room (store image.old staging.now self) (length bytes.now) }
         ensures { store image.new staging.now result ≡ direct (flushed (store image.old staging.now self)) bytes.now }
@@ -56,6 +60,7 @@ impl Buffered {
     }
 
     // Bytes go behind the staged ones.
+    #[tactic(auto, unfolding(crate::specs::Staging::staged))]
     fn keep(self, image: &[u8], staging: &mut [u8], bytes: &[u8]) -> Buffered
         requires { self.staged + length bytes.now ≤ length staging.old }
         ensures { store image.now staging.new result ≡ staged (store image.now staging.old self) bytes.now }
@@ -71,6 +76,7 @@ impl Buffered {
     }
 
     // The rest of a write that filled the staging.
+    #[tactic(auto, unfolding(crate::specs::Staging::flushed))]
     fn flush_keep(self, image: &mut [u8], staging: &mut [u8], bytes: &[u8]) -> Buffered
         requires { Room (store image.old staging.old self) 0 × (length bytes.now ≤ length staging.old) }
         ensures { store image.new staging.new result ≡ staged (flushed (store image.old staging.old self)) bytes.now }
@@ -80,6 +86,7 @@ impl Buffered {
     }
 
     // A write of which only the first n bytes fit the staging.
+    #[tactic(auto, unfolding(crate::specs::Staging::staged))]
     fn split(self, image: &mut [u8], staging: &mut [u8], bytes: &[u8], n: usize) -> Buffered
         requires { Room (store image.old staging.old self) (length bytes.now) × (self.staged + n ≤ length staging.old) × (n ≤ length bytes.now) × (length bytes.now ≤ length staging.old) }
         ensures { store image.new staging.new result ≡ staged (flushed (staged (store image.old staging.old self) (take n bytes.now))) (drop n bytes.now) }
@@ -89,6 +96,7 @@ impl Buffered {
     }
 
     // One write.
+    #[tactic(auto, using(crate::proofs::Written::ways))]
     pub fn write(self, image: &mut [u8], staging: &mut [u8], bytes: &[u8]) -> Buffered
         requires { Room (store image.old staging.old self) (length bytes.now) }
         ensures { store image.new staging.new result ≡ written (store image.old staging.old self) bytes.now }
@@ -125,6 +133,7 @@ impl Buffered {
     }
 
     // Nothing where everything below t is on the device already; else a flush if t lies past the file position.
+    #[tactic(auto, unfolding(crate::specs::Staging::synchronized))]
     pub fn synchronize(self, image: &mut [u8], staging: &[u8], t: u64) -> Buffered
         requires { Room (store image.old staging.now self) 0 }
         ensures { store image.new staging.now result ≡ synchronized (store image.old staging.now self) t }

@@ -2,21 +2,21 @@
 ghost use Rattle.std.specs.Prelude.{◌≡◌, pos, ◌+ℤ◌};
 ghost use Rattle.buffered.specs.Seek.{integer, landed_as, land, SeekAllows};
 
-#[derive(Drop)]
+#[derive(Clone, Copy)]
 pub enum SeekFrom {
     Start(u64),
     End(i64),
     Current(i64),
 }
 
-#[derive(Drop)]
+#[derive(Clone, Copy)]
 pub enum Landing {
     At(u64),
     Refused(u8),
 }
 
 // A signed offset, taken apart: Up(n) is n, Down(n) is -n - 1.
-#[derive(Drop)]
+#[derive(Clone, Copy)]
 enum Offset {
     Up(u64),
     Down(u64),

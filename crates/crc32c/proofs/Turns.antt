@@ -1,10 +1,6 @@
 -- A loop over a list, as its invariant has it: r is the register before the byte at i, and u what the whole list comes to.
-use mathlib.Core.Path.{◌≡◌}
-use mathlib.Core.List.{List}
-use Prim.Native.Nat.{ℕ, ◌+◌, ◌<◌, ◌≤◌}
-use native.Mathlib.Numerals.{add-one}
-use lib.ListN.{length, get_or, drop, drop_of_length-le}
-use lib.Seq.{drop-cons}
+use Rattle.std.specs.Prelude.{◌≡◌, List, ℕ, ◌+◌, ◌<◌, ◌≤◌, length, get_or, drop}
+use Rattle.std.proofs.Common.{add-one, drop_of_length-le, drop-cons}
 use Rattle.crc32c.specs.Crc.{byte_step, update}
 
 pub turn : (r : ℕ) (s : List ℕ) (i : ℕ) {x u : ℕ} → i < length s → x ≡ byte_step r (get_or s i 0) → update r (drop i s) ≡ u

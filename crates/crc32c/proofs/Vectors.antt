@@ -1,9 +1,6 @@
 -- The examples of RFC 3720, appendix B.4, and the usual check value of nine digits, computed by the definition itself. (The crate `rfc3720` runs
 -- the code on them.)
-use mathlib.Core.Path.{◌≡◌, refl}
-use mathlib.Core.List.{List, [], ◌∷◌, ◌++◌, reverse}
-use Prim.Native.Nat.{ℕ, zero, suc}
-use lib.ListN.{replicate}
+use Rattle.std.specs.Prelude.{◌≡◌, refl, List, [], ◌∷◌, ◌++◌, ℕ, zero, suc, replicate, reverse}
 use Rattle.crc32c.specs.Crc.{bit_step, steps, byte_step, update, crc_append, crc32c}
 
 -- the n numbers from i up

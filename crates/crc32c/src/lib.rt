@@ -1,4 +1,6 @@
 // CRC-32C (RFC 3720, section 12.1 and appendix B.4), bit by bit. `append` is the one public function: it continues a finished sum.
+#![tactic(auto)]
+
 ghost use Rattle.std.specs.Prelude.{◌≡◌};
 ghost use Rattle.crc32c.specs.Crc.{bit_step, byte_step, AppendAllows};
 
@@ -6,6 +8,7 @@ ghost use Rattle.crc32c.specs.Crc.{bit_step, byte_step, AppendAllows};
 const POLY: u32 = 0x82F6_3B78;
 
 // One bit goes out of the register at its low end.
+#[tactic(auto, unfolding(crate::specs::Crc::bit_step))]
 fn bit_step(r: u32) -> u32
     ensures { result ≡ bit_step r }
 {
@@ -14,6 +17,7 @@ fn bit_step(r: u32) -> u32
 }
 
 // A byte goes into the register, and its eight bits out.
+#[tactic(auto, unfolding(crate::specs::Crc::byte_step, crate::specs::Crc::steps))]
 fn byte_step(r: u32, b: u8) -> u32
     ensures { result ≡ byte_step r b }
 {
@@ -25,6 +29,7 @@ fn byte_step(r: u32, b: u8) -> u32
 }
 
 // Continues the finished sum crc with bytes; 0 is the sum of no bytes.
+#[tactic(auto, unfolding(crate::specs::Crc::crc_append), using(crate::proofs::Turns::turn, crate::proofs::Turns::done))]
 pub fn append(crc: u32, bytes: &[u8]) -> u32
     ensures { AppendAllows crc bytes.now result }
 {

@@ -1,6 +1,6 @@
 -- Document 01's bytes, computed from the definitions: P1, P2, P6.
-use mathlib.Core.Path.{◌≡◌, refl}
-use mathlib.Core.List.{[], ◌∷◌, flat_map}
+use Rattle.std.specs.Prelude.{◌≡◌, refl, [], ◌∷◌}
+use mathlib.Core.List.{flat_map}
 use Rattle.little_endian.specs.LittleEndian.{le}
 use Rattle.crc32c.specs.Crc.{bit_step, steps, byte_step, update, crc_append}
 use Rattle.entry.specs.Format.{header, covered, chunk_sum, chunk, entry, segment}

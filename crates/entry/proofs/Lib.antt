@@ -1,3 +1,3 @@
--- How each function comes out; then bytes that document 01 prints, computed.
+-- Two halves stored, as one; then bytes that document 01 prints, computed.
 pub mod Returns
 pub mod Examples

@@ -1,4 +1,6 @@
 // The pieces of a segment (okaywal's entry.rs): marks, ids, positions and chunk records. The bytes of header, chunk, entry and segment are specs/Format.
+#![tactic(auto)]
+
 ghost use Rattle.entry.specs.Position.{SerializeAllows, DeserializeAllows};
 
 pub const NEW_ENTRY: u8 = 1;
@@ -11,26 +13,26 @@ pub const END_OF_ENTRY: u8 = 3;
 pub type EntryId = u64;
 
 // The position of a chunk: that of its 02.
-#[derive(Drop)]
+#[derive(Clone, Copy)]
 pub struct LogPosition {
     pub file_id: u64,
     pub offset: u64,
 }
 
-#[derive(Drop)]
+#[derive(Clone, Copy)]
 pub enum Serialized {
     Stored,
     Refused(u8),
 }
 
-#[derive(Drop)]
+#[derive(Clone, Copy)]
 pub enum Deserialized {
     Position(LogPosition),
     Refused(u8),
 }
 
 // A chunk that was written.
-#[derive(Drop)]
+#[derive(Clone, Copy)]
 pub struct ChunkRecord {
     pub position: LogPosition,
     pub crc: u32,
@@ -42,6 +44,7 @@ impl LogPosition {
 
     // Stores the 16 bytes of the position at the start of destination. Refused with 5, and nothing stored, where destination is shorter; of a longer
     // one, bytes 16 and on stay.
+    #[tactic(auto, unfolding(crate::specs::Position::serialized, crate::specs::Position::position_bytes), using(crate::proofs::Returns::halves))]
     pub fn serialize_to(self, destination: &mut [u8]) -> Serialized
         ensures { SerializeAllows self destination.old result destination.new }
     {
@@ -56,6 +59,7 @@ impl LogPosition {
     }
 
     // The position in the first 16 bytes of read. Refused with 1 where there are fewer.
+    #[tactic(auto, unfolding(crate::specs::Position::deserialized))]
     pub fn deserialize_from(read: &[u8]) -> Deserialized
         ensures { DeserializeAllows read.now result }
     {

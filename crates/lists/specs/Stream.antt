@@ -1,7 +1,7 @@
 -- An image read from a place on: `drop p image` is the stream there. What stands first in it, at its offset, and what
 -- stands after a part of it.
-use Rattle.std.specs.Prelude.{◌≡◌, refl, List, [], ◌∷◌, ◌++◌, ℕ, zero, suc, ◌+◌, ◌-◌, ◌≤◌, ◌<◌, length, get_or, take, drop}
-use Rattle.std.proofs.Common.{sym, ap, ◌∙◌, add-zero, add-one, arith, length-drop, take-append-drop, drop-drop, drop-cons, get_or-drop, get_or-take, length-take-le, take_at, drop_at}
+use Rattle.std.specs.Prelude.{◌≡◌, refl, List, ◌∷◌, ◌++◌, ℕ, suc, ◌+◌, ◌≤◌, ◌<◌, length, get_or, take, drop}
+use Rattle.std.proofs.Common.{sym, add-zero, add-one, arith, length-drop, take-append-drop, drop-drop, drop-cons, get_or-drop, length-take-le, take_at, drop_at}
 
 -- the k bytes at p
 abbrev pub part : List ℕ → ℕ → ℕ → List ℕ

@@ -2,7 +2,7 @@
 -- of the rest's result. It is run by fuel, and a walk whose every turn but the last starts inside `size` needs no more
 -- than `size + 1`: `around-stop` and `around-on` are the equations that code is proved by, `around-ind` is the induction,
 -- and `more-fuel` says that more fuel than needed changes nothing.
-use Rattle.std.specs.Prelude.{◌≡◌, refl, ℕ, zero, suc, ◌+◌, ◌≤◌, ◌<◌}
+use Rattle.std.specs.Prelude.{◌≡◌, refl, ℕ, zero, suc, ◌+◌, ◌<◌}
 use Rattle.std.proofs.Common.{sym, ◌∙◌, arith}
 use Rattle.std.proofs.Math.Path.{ap}
 

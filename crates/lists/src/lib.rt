@@ -1,4 +1,6 @@
 // internal: storing bytes into a buffer, sums and tests that cannot wrap, and one check of a row of refusals.
+#![tactic(auto)]
+
 ghost use Rattle.std.specs.Prelude.{◌≡◌, cond, ◌+◌, ◌-◌, ◌≤◌, min, max, length, leb, ltb};
 ghost use Rattle.lists.specs.Lay.{lay};
 

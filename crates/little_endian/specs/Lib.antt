@@ -1,3 +1,2 @@
--- Numbers as bytes and back: the definitions, then their laws.
+-- Numbers as bytes and back: the definitions. Their laws are in proofs/LittleEndianLaws.
 pub mod LittleEndian
-pub mod LittleEndianLaws

@@ -1,8 +1,11 @@
-// internal: numbers of 4 and 8 bytes, the low byte first. What `le` and `from_le` say of any width is proved once, in specs/LittleEndianLaws.
+// internal: numbers of 4 and 8 bytes, the low byte first. What `le` and `from_le` say of any width is proved once, in proofs/LittleEndianLaws.
+#![tactic(auto)]
+
 ghost use Rattle.std.specs.Prelude.{◌≡◌, ◌+◌, ◌≤◌, ◌<◌, length};
 ghost use Rattle.little_endian.specs.LittleEndian.{le, number};
 
 // The 4 bytes of n.
+#[tactic(auto, unfolding(crate::specs::LittleEndian::le))]
 pub fn u32_bytes(n: u32) -> [u8; 4]
     ensures { result ≡ le 4 n }
 {
@@ -18,6 +21,7 @@ pub fn u32_bytes(n: u32) -> [u8; 4]
 }
 
 // The 8 bytes of n.
+#[tactic(auto, unfolding(crate::specs::LittleEndian::le))]
 pub fn u64_bytes(n: u64) -> [u8; 8]
     ensures { result ≡ le 8 n }
 {
@@ -48,6 +52,7 @@ fn wide(b: u8) -> u64
 }
 
 // The number in the 4 bytes at the offset at.
+#[tactic(auto, using(crate::proofs::Places::places))]
 pub fn u32_at(bytes: &[u8], at: usize) -> u32
     requires { at + 4 ≤ length bytes.now }
     ensures { result ≡ number 4 bytes.now at }
@@ -58,6 +63,7 @@ pub fn u32_at(bytes: &[u8], at: usize) -> u32
 }
 
 // The number in the 8 bytes at the offset at.
+#[tactic(auto, using(crate::proofs::Places::places))]
 pub fn u64_at(bytes: &[u8], at: usize) -> u64
     requires { at + 8 ≤ length bytes.now }
     ensures { result ≡ number 8 bytes.now at }

@@ -1,6 +1,5 @@
--- Laws that the proofs of functions cite: places in a text, the same text, ranges, numbers, pairs of digits.
+-- Laws that the proofs of functions cite: places in a text, the same text, numbers, pairs of digits.
 pub mod Places
 pub mod Sames
-pub mod Ranges
 pub mod Numbers
 pub mod Pairs

@@ -1,11 +1,5 @@
 -- Bytes from pairs of hex digits: how many there are, which stands at a place, and one turn of the loop that stores them.
-use mathlib.Core.Path.{◌≡◌, refl, ◌∙◌}
-use mathlib.Core.List.{List, [], ◌∷◌}
-use Prim.Native.Nat.{ℕ, zero, suc, ◌+◌, ◌*◌, ◌/◌, ◌≤◌, ◌<◌, min}
-use native.Mathlib.Numerals.{add-one}
-use native.Mathlib.Omega.{arith}
-use lib.ListN.{length, get_or, drop, set, length-take, drop_of_length-le}
-use lib.Seq.{drop-cons, get_or-take}
+use Rattle.std.proofs.Common.{◌≡◌, refl, ◌∙◌, List, [], ◌∷◌, ℕ, zero, suc, ◌+◌, ◌*◌, ◌/◌, ◌≤◌, ◌<◌, min, add-one, arith, length, get_or, drop, set, length-take, drop_of_length-le, drop-cons, get_or-take}
 use Rattle.lists.specs.Lay.{lay}
 use Rattle.text.specs.Text.{hex_digit, unhexed, fitting}
 
@@ -35,10 +29,10 @@ fitting-at s out i h =
     get_or-take (length out) (unhexed s) i 0 (omega arith) ∙ pair-at s i (omega arith)
 
 module _ (s out₀ out : List ℕ) (i : ℕ) {l : List ℕ} (so_far : lay out i (drop i (fitting s out₀)) ≡ l) where
-  pub goes_on : (high low : ℕ) → i < length (fitting s out₀) → high ≡ hex_digit (get_or s (2 * i) 0) → low ≡ hex_digit (get_or s (2 * i + 1) 0)
-      → lay (set out i (high * 16 + low)) (i + 1) (drop (i + 1) (fitting s out₀)) ≡ l
+  pub goes_on : (b : ℕ) → i < length (fitting s out₀) → b ≡ hex_digit (get_or s (2 * i) 0) * 16 + hex_digit (get_or s (2 * i + 1) 0)
+      → lay (set out i b) (i + 1) (drop (i + 1) (fitting s out₀)) ≡ l
   unfolding lay
-  goes_on high low h e f = rw (add-one, e, f, ← fitting-at s out₀ i h) (rw (drop-cons (fitting s out₀) i 0 h) at so_far)
+  goes_on b h e = rw (add-one, e, ← fitting-at s out₀ i h) (rw (drop-cons (fitting s out₀) i 0 h) at so_far)
 
   pub ends : length (fitting s out₀) ≤ i → out ≡ l
   unfolding lay

@@ -1,17 +1,9 @@
 -- The place of the first stop: what stands before it, at it and behind it, as loops and slices have it.
-use mathlib.Core.Path.{◌≡◌, refl, sym, ap, ◌∙◌}
-use mathlib.Core.Bool.{Bool, true, false, cond}
-use mathlib.Core.List.{List, [], ◌∷◌}
-use Prim.Native.Nat.{ℕ, zero, suc, ◌+◌, ◌-◌, ◌≤◌, ◌<◌, min}
-use native.Mathlib.Nat.{zero-min, min-zero, suc-min-suc, add-zero, add-suc}
-use native.Mathlib.Numerals.{add-one}
-use native.Mathlib.Omega.{arith}
-use lib.ListN.{length, get_or, take, drop, drop_of_length-le}
-use lib.Seq.{drop-drop, drop-cons}
-use lib.Dec.{eqb}
-use borrow.Author.Tests.{eq-eqb, ne_eqb}
+use Rattle.std.proofs.Common.{◌≡◌, refl, sym, ap, ◌∙◌, Bool, true, false, cond, List, [], ◌∷◌, ℕ, zero, suc, ◌+◌, ◌-◌, ◌≤◌, ◌<◌, min, add-zero, add-suc, add-one, arith, length, get_or, take, drop, drop_of_length-le, drop-drop, drop-cons, eqb, eq-eqb, ne_eqb}
+use Rattle.std.proofs.Math.Nat.{zero-min, min-zero, suc-min-suc}
 use Rattle.lists.specs.ChoiceLaws.{either}
 use Rattle.text.specs.Text.{until, behind, place, words_from, word_at}
+use Rattle.text.specs.TextLaws.{place-le, place-ge}
 
 -- ---- as many as there are
 
@@ -103,3 +95,9 @@ pub word_of : (line : List ℕ) (k start end : ℕ) → start ≤ length line �
     → take (end - start) (drop start line) ≡ word_at k line
 unfolding word_at
 word_of line k start end h d e = rw e (between 32 line start h ∙ ap (until 32) d)
+
+-- ---- what the code is proved by
+
+pub ruleset behind_stop = (place-le, behind-place, behind-end)
+
+pub ruleset words = (place-le, place-ge, words-go-on, words-end, word_of)

@@ -1,13 +1,6 @@
 -- Two texts compared byte by byte: what is left of both is the same just where both are.
-use mathlib.Core.Path.{◌≡◌, refl, ap}
-use mathlib.Core.Bool.{Bool, true, false, and-false}
-use mathlib.Core.List.{List, [], ◌∷◌}
-use Prim.Native.Nat.{ℕ, suc, ◌+◌, ◌≤◌, ◌<◌}
-use native.Mathlib.Numerals.{add-one}
-use native.Mathlib.Omega.{arith}
-use lib.ListN.{length, get_or, drop, drop_of_length-le}
-use lib.Seq.{drop-cons}
-use borrow.Author.Tests.{eq-eqb, ne_eqb}
+use Rattle.std.proofs.Common.{◌≡◌, refl, ap, Bool, true, false, List, [], ◌∷◌, ℕ, suc, ◌+◌, ◌≤◌, ◌<◌, add-one, length, get_or, drop, drop_of_length-le, drop-cons, eq-eqb, ne_eqb}
+use Rattle.std.proofs.Math.Bool.{and-false}
 use Rattle.text.specs.Text.{same}
 
 pub other-lengths : (a b : List ℕ) → (length a ≡ length b → ⊥) → false ≡ same a b
@@ -29,3 +22,7 @@ module _ (a b : List ℕ) (i : ℕ) {r : Bool} (so_far : same (drop i a) (drop i
   pub ends : length a ≤ i → length b ≤ i → true ≡ r
   unfolding same
   ends h k = rw (drop_of_length-le a h, drop_of_length-le b k) at so_far
+
+-- ---- what the code is proved by
+
+pub ruleset turns = (other-lengths, differs, goes_on, ends)

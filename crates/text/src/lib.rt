@@ -1,9 +1,12 @@
 // What programs read words by: the same text, words of a line, numbers in decimal, bytes as pairs of hex digits. Every function answers any bytes.
+#![tactic(auto)]
+
 ghost use Rattle.std.specs.Prelude.{◌≡◌, [], ◌∷◌, ◌≤◌, length, drop};
 ghost use Rattle.text.specs.Text.{first, same, behind, place, words_from, word_at, decimal, number_as, or_zero, hex_digit, UnhexAllows};
 ghost use Rattle.text.specs.Digits.{decimal_from};
 
 // The first n bytes, or as many as there are.
+#[tactic(auto, using(crate::proofs::Places::first_of))]
 pub fn first(s: &[u8], n: usize) -> &[u8]
     ensures { result.now ≡ first n s.now }
 {
@@ -12,6 +15,7 @@ pub fn first(s: &[u8], n: usize) -> &[u8]
 }
 
 // Whether both have the same bytes.
+#[tactic(auto, using(crate::proofs::Sames::turns))]
 pub fn same(a: &[u8], b: &[u8]) -> bool
     ensures { result ≡ same a.now b.now }
 {
@@ -29,6 +33,7 @@ pub fn same(a: &[u8], b: &[u8]) -> bool
 }
 
 // The place of the first `stop` from `from` on; the length where there is none.
+#[tactic(auto, using(crate::proofs::Places::begins, crate::proofs::Places::found, crate::proofs::Places::goes_on, crate::proofs::Places::ends))]
 pub fn find(s: &[u8], from: usize, stop: u8) -> usize
     ensures { result ≡ place s.now from stop }
 {
@@ -43,6 +48,7 @@ pub fn find(s: &[u8], from: usize, stop: u8) -> usize
 }
 
 // Where the next word begins: behind the next space, or at the line's end.
+#[tactic(auto, using(crate::proofs::Places::behind_stop))]
 fn next_word(line: &[u8], at: usize) -> usize
     ensures { (result ≤ length line.now) × (drop result line.now ≡ behind 32 (drop at line.now)) }
 {
@@ -51,6 +57,7 @@ fn next_word(line: &[u8], at: usize) -> usize
 }
 
 // Where the k-th word begins.
+#[tactic(auto, using(crate::proofs::Places::words))]
 fn word_start(line: &[u8], k: usize) -> usize
     ensures { (result ≤ length line.now) × (drop result line.now ≡ words_from k line.now) }
 {
@@ -64,6 +71,7 @@ fn word_start(line: &[u8], k: usize) -> usize
 }
 
 // The k-th word of a line whose words are one space apart, counted from 0; empty where there is none.
+#[tactic(auto, using(crate::proofs::Places::words))]
 pub fn word(line: &[u8], k: usize) -> &[u8]
     ensures { result.now ≡ word_at k line.now }
 {
@@ -72,13 +80,14 @@ pub fn word(line: &[u8], k: usize) -> &[u8]
     &line[start..end]
 }
 
-#[derive(Drop)]
+#[derive(Clone, Copy)]
 pub enum Number {
     Of(u64),
     Not,
 }
 
 // n with one digit more.
+#[tactic(auto, unfolding(crate::specs::Digits::decimal_from, crate::specs::Text::all_digits, crate::specs::Text::value))]
 fn with_digit(n: u64, c: u8) -> Number
     ensures { number_as result ≡ decimal_from n (c ∷ []) }
 {
@@ -99,6 +108,7 @@ fn with_digit(n: u64, c: u8) -> Number
 }
 
 // A number in decimal: one digit or more and nothing else, at most 2^64 - 1.
+#[tactic(auto, using(crate::proofs::Numbers::turns))]
 pub fn decimal(s: &[u8]) -> Number
     ensures { number_as result ≡ decimal s.now }
 {
@@ -132,6 +142,7 @@ pub fn decimal_or_zero(s: &[u8]) -> u64
 }
 
 // The value of a hex digit in lower case, 0 of anything else.
+#[tactic(auto, unfolding(crate::specs::Text::hex_digit))]
 fn nibble(c: u8) -> u8
     ensures { (result ≡ hex_digit c) × (result ≤ 15) }
 {
@@ -143,6 +154,7 @@ fn nibble(c: u8) -> u8
 }
 
 // Stores the bytes that pairs of hex digits stand for, as many as fit, and answers their number.
+#[tactic(auto, using(crate::proofs::Pairs::as_many, crate::proofs::Pairs::goes_on, crate::proofs::Pairs::ends))]
 pub fn unhex(s: &[u8], out: &mut [u8]) -> usize
     ensures { UnhexAllows s.now out.old result out.new }
 {
