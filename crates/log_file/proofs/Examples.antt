@@ -1,9 +1,9 @@
 -- Document 01's cases, computed from the definitions that the promises cite: P1 to P5, P9, P10 and the staged rollback of P11.
-use Prim.Native.Nat.{ℕ}
-use mathlib.Core.Path.{◌≡◌, refl, ◌∙◌}
+use Rattle.std.specs.Prelude.{ℕ}
+use Rattle.std.proofs.Common.{◌≡◌, refl, ◌∙◌}
 use mathlib.Core.List.{List, [], ◌∷◌, ◌++◌, map, flat_map}
-use lib.ListN.{length, replicate}
-use lib.IntN.{pos, negsuc}
+use Rattle.std.proofs.Math.ListN.{replicate}
+use Rattle.std.proofs.Math.IntN.{pos, negsuc}
 use Rattle.lists.specs.Lay.{lay}
 use Rattle.lists.specs.Answers.{Answer, accepted, refused, number_of}
 use Rattle.lists.specs.AnswersLaws.{Every, every}
@@ -19,7 +19,7 @@ use Rattle.log_file.specs.Opening.{Terms, padded, open_refusal, prepared, unhead
 use Rattle.log_file.specs.History
 use Rattle.log_file.specs.History.{History, begun, opening, bytes, causes, tells, told, next, tellable}
 use Rattle.log_file.specs.Shows.{Shows}
-use Rattle.log_file.specs.ShowsLaws.{same_answer, still-shows, fresh-shows}
+use Rattle.log_file.proofs.ShowsLaws.{same_answer, still-shows, fresh-shows}
 
 -- id 1, no version info
 abbrev pub terms : (preallocate : ℕ) → Terms

@@ -1,8 +1,10 @@
--- How calls, plain reads and openings come out, over plain variables; last, cases of document 01, computed.
-pub mod Outcomes
+-- What the search is given: room for what a call writes, the sum of no bytes, that a position is small, what a header leaves. Then that a writer shows
+-- its history; last, cases of document 01, computed.
 pub mod Rooms
 pub mod Pieces
-pub mod Landings
 pub mod PlainReads
 pub mod Openings
+pub mod ShowsAnswers
+pub mod ShowsNext
+pub mod ShowsLaws
 pub mod Examples

@@ -1,10 +1,8 @@
 -- What an accepted call finds: a valid state, the moment that it belongs to, and room for its writes.
-use Prim.Native.Nat.{ℕ, ◌+◌, ◌-◌, ◌≤◌}
-use native.Mathlib.Omega.{arith}
-use mathlib.Core.Path.{◌≡◌, refl, sym, ◌∙◌}
-use mathlib.Core.Bool.{Bool, true, false, cond, not}
+use Rattle.std.specs.Prelude.{ℕ, ◌+◌, ◌≤◌, Bool, true, false, cond, not}
+use Rattle.std.proofs.Common.{arith, ◌≡◌, refl, sym, ◌∙◌}
 use mathlib.Core.List.{List}
-use lib.ListN.{length}
+use Rattle.std.proofs.Math.ListN.{length}
 use borrow.Author.Tests.{leb-true, ltb-false}
 use Rattle.lists.specs.Answers.{first}
 use Rattle.lists.specs.AnswersLaws.{Every, clear}

@@ -1,6 +1,6 @@
 -- The laws of a writer's calls, for any state and any buffers: a refusal changes nothing, a valid state stays valid, and what an accepted call cuts
 -- from the logical segment and appends to it.
-use Prim.Native.Nat.{ℕ, ◌+◌, ◌-◌, ◌≤◌, min}
+use Prim.Native.Nat.{ℕ, ◌+◌, ◌≤◌, min}
 use Rattle.std.proofs.Common.{add-zero, arith, ◌∙◌, subst, length-append}
 use Rattle.std.specs.Prelude.{◌≡◌, Bool, true, false, not, take}
 use Rattle.std.proofs.Math.Path.{refl, sym}
@@ -10,9 +10,9 @@ use borrow.Author.Tests.{leb-true, le-leb, ltb-false, not-false}
 use Rattle.lists.specs.Answers.{number_of, Check, ◌⇒◌, first}
 use Rattle.lists.specs.AnswersLaws.{Clear, clear, Every}
 use Rattle.lists.specs.ChoiceLaws.{obeyed, refusal-keeps, number-reply}
-use Rattle.little_endian.specs.LittleEndianLaws.{length-le}
-use Rattle.buffered.specs.Staging.{Store, logical, logical_position, back_to}
-use Rattle.buffered.specs.StagingLaws.{Reads, same-position, flush-reads, sync-reads, written_all-reads, back-reads, Sizes, flush-wrote, written_all-wrote, back-sizes, sync-sizes, sizes-none, sizes-both}
+use Rattle.little_endian.proofs.LittleEndianLaws.{length-le}
+use Rattle.buffered.specs.Staging.{Store, logical, logical_position, back_to, Reads, Sizes}
+use Rattle.buffered.proofs.StagingLaws.{same-position, flush-reads, sync-reads, written_all-reads, back-reads, flush-wrote, written_all-wrote, back-sizes, sync-sizes, sizes-none, sizes-both}
 use Rattle.log_file.specs.declared.Moment.{Moment}
 use Rattle.log_file.specs.declared.Moment.TheVariants.{Idle, InEntry, InChunk}
 use Rattle.log_file.specs.declared.LogFileWriter.{LogFileWriter}

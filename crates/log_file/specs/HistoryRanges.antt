@@ -1,6 +1,6 @@
 -- What a reader asks of entries to find them again: ids from the segment's up and of 64 bits, chunk lengths of 32 bits. A history has only such
 -- entries where the calls' arguments are of these widths, as the code's types say.
-use Rattle.std.specs.Prelude.{ℕ, ◌+◌, ◌-◌, ◌^◌, ◌≤◌, ◌<◌, ◌≡◌}
+use Rattle.std.specs.Prelude.{ℕ, ◌^◌, ◌≤◌, ◌<◌, ◌≡◌}
 use Rattle.std.proofs.Common.{arith, length-append, length-take, ltb-false}
 use mathlib.Core.List.{List, [], ◌∷◌, ◌++◌}
 use Rattle.std.proofs.Math.ListN.{length}
@@ -8,7 +8,6 @@ use Rattle.lists.specs.Answers.{first}
 use Rattle.lists.specs.AnswersLaws.{clear}
 use Rattle.lists.specs.ChoiceLaws.{obeyed}
 use Rattle.lists.specs.All.{All}
-use Rattle.entry.specs.Format.{Entry}
 use Rattle.entry.specs.Writable.{Writable}
 use Rattle.log_file.specs.declared.LastId.{LastId}
 use Rattle.log_file.specs.Calls.{Call, begin_entry, begin_chunk, write, finish, commit, rollback, flush, recycle, synchronize, landing}

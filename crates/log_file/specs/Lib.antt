@@ -13,6 +13,3 @@ pub mod History
 pub mod HistoryLaws
 pub mod HistoryRanges
 pub mod Shows
-pub mod ShowsAnswers
-pub mod ShowsNext
-pub mod ShowsLaws

@@ -8,37 +8,37 @@ ghost use Rattle.log_file.specs.Promises.{BeginEntryAllows, BeginChunkAllows, Wr
 use crate::{Answer, Answered, LastId, LogFileWriter, Moment};
 use entry::{ChunkRecord, EntryId, LogPosition};
 
-#[derive(Drop)]
+#[derive(Clone, Copy)]
 pub enum WriteAnswer {
     Taken(usize),
     Refused(u8),
 }
 
-#[derive(Drop)]
+#[derive(Clone, Copy)]
 pub struct Written {
     pub writer: LogFileWriter,
     pub answer: WriteAnswer,
 }
 
-#[derive(Drop)]
+#[derive(Clone, Copy)]
 pub enum FinishAnswer {
     Chunk(ChunkRecord),
     Refused(u8),
 }
 
-#[derive(Drop)]
+#[derive(Clone, Copy)]
 pub struct Finished {
     pub writer: LogFileWriter,
     pub answer: FinishAnswer,
 }
 
-#[derive(Drop)]
+#[derive(Clone, Copy)]
 pub enum CommitAnswer {
     Entry { id: u64, length: usize },
     Refused(u8),
 }
 
-#[derive(Drop)]
+#[derive(Clone, Copy)]
 pub struct Committed {
     pub writer: LogFileWriter,
     pub answer: CommitAnswer,
@@ -46,6 +46,7 @@ pub struct Committed {
 
 // ---- begin_entry
 
+#[tactic(auto, unfolding(crate::specs::Calls::checks))]
 fn begin_entry_refusal(w: LogFileWriter, image: usize, staging: usize, id: u64) -> u8
     ensures { result ≡ refusal_with w image staging (begin_entry id) }
 {
@@ -60,6 +61,7 @@ fn begin_entry_refusal(w: LogFileWriter, image: usize, staging: usize, id: u64) 
     lists::refuse_if(!crate::is_valid(w, image, staging), 12, now)
 }
 
+#[tactic(auto, unfolding(crate::specs::Calls::acted, crate::specs::Calls::worked, crate::specs::Calls::writes, crate::specs::Calls::id_after, crate::specs::Calls::last_after, crate::specs::Calls::moment_after, buffered::specs::Staging::written_all))]
 fn entry_begun(w: LogFileWriter, image: &mut [u8], staging: &mut [u8], id: u64) -> LogFileWriter
     requires { Room (store image.old staging.old w.file) 10 }
     ensures { machine result image.new staging.new ≡ acted (machine w image.old staging.old) (begin_entry id) }
@@ -74,6 +76,7 @@ fn entry_begun(w: LogFileWriter, image: &mut [u8], staging: &mut [u8], id: u64) 
 }
 
 // Begins an entry: 01 and its id. Refused with 12, 6 unless idle, 7 where the id is below the segment's, 5 where there is no room.
+#[tactic(auto, unfolding(crate::specs::Calls::called, crate::specs::Calls::refusal, crate::specs::State::valid, crate::specs::Calls::reports))]
 pub fn begin_entry(w: LogFileWriter, image: &mut [u8], staging: &mut [u8], id: EntryId) -> Answered
     ensures { BeginEntryAllows w image.old staging.old id result image.new staging.new }
 {
@@ -92,6 +95,7 @@ pub fn begin_entry(w: LogFileWriter, image: &mut [u8], staging: &mut [u8], id: E
 
 // ---- begin_chunk
 
+#[tactic(auto, unfolding(crate::specs::Calls::checks))]
 fn begin_chunk_refusal(w: LogFileWriter, image: usize, staging: usize, n: u32) -> u8
     ensures { result ≡ refusal_with w image staging (begin_chunk n) }
 {
@@ -106,6 +110,7 @@ fn begin_chunk_refusal(w: LogFileWriter, image: usize, staging: usize, n: u32) -
 }
 
 // An open entry, with a chunk of n bytes in it.
+#[tactic(auto, using(crate::proofs::Pieces::no_bytes))]
 fn chunk_in(m: Moment, n: u32) -> Moment
     ensures { result ≡ opened_chunk n m }
 {
@@ -128,6 +133,7 @@ fn chunk_in(m: Moment, n: u32) -> Moment
     }
 }
 
+#[tactic(auto, unfolding(crate::specs::Calls::acted, crate::specs::Calls::worked, crate::specs::Calls::writes, crate::specs::Calls::id_after, crate::specs::Calls::last_after, crate::specs::Calls::moment_after, buffered::specs::Staging::written_all))]
 fn chunk_begun(w: LogFileWriter, image: &mut [u8], staging: &mut [u8], n: u32) -> LogFileWriter
     requires { Room (store image.old staging.old w.file) 5 }
     ensures { machine result image.new staging.new ≡ acted (machine w image.old staging.old) (begin_chunk n) }
@@ -142,6 +148,7 @@ fn chunk_begun(w: LogFileWriter, image: &mut [u8], staging: &mut [u8], n: u32) -
 }
 
 // Begins a chunk of n bytes: 02 and the length. Refused with 12, 6 unless in an entry with no chunk open, 5 where there is no room.
+#[tactic(auto, unfolding(crate::specs::Calls::called, crate::specs::Calls::refusal, crate::specs::State::valid, crate::specs::Calls::reports))]
 pub fn begin_chunk(w: LogFileWriter, image: &mut [u8], staging: &mut [u8], n: u32) -> Answered
     ensures { BeginChunkAllows w image.old staging.old n result image.new staging.new }
 {
@@ -160,6 +167,7 @@ pub fn begin_chunk(w: LogFileWriter, image: &mut [u8], staging: &mut [u8], n: u3
 
 // ---- write
 
+#[tactic(auto, unfolding(crate::specs::Calls::checks))]
 fn write_refusal(w: LogFileWriter, image: usize, staging: usize) -> u8
     ensures { result ≡ refusal_with w image staging (writing []) }
 {
@@ -192,6 +200,7 @@ fn got_more(m: Moment, taken: &[u8]) -> Moment
     }
 }
 
+#[tactic(auto, unfolding(crate::specs::Calls::acted, crate::specs::Calls::worked, crate::specs::Calls::writes, crate::specs::Calls::id_after, crate::specs::Calls::last_after, crate::specs::Calls::moment_after, buffered::specs::Staging::written_all))]
 fn piece_written(
     w: LogFileWriter,
     image: &mut [u8],
@@ -211,6 +220,7 @@ fn piece_written(
 }
 
 // Takes the first min(offered, owed) bytes, and reports their number. Refused with 12, 6 unless in a chunk.
+#[tactic(auto, unfolding(crate::specs::Calls::called, crate::specs::Calls::refusal, crate::specs::State::valid, crate::specs::Calls::reports, crate::specs::Calls::checks))]
 pub fn write(w: LogFileWriter, image: &mut [u8], staging: &mut [u8], offered: &[u8]) -> Written
     ensures { WriteAllows w image.old staging.old offered.now result image.new staging.new }
 {
@@ -232,6 +242,7 @@ pub fn write(w: LogFileWriter, image: &mut [u8], staging: &mut [u8], offered: &[
 
 // ---- finish
 
+#[tactic(auto, unfolding(crate::specs::Calls::checks))]
 fn finish_refusal(w: LogFileWriter, image: usize, staging: usize) -> u8
     ensures { result ≡ refusal_with w image staging finishing }
 {
@@ -259,6 +270,7 @@ fn chunk_closed(m: Moment) -> Moment
     }
 }
 
+#[tactic(auto, unfolding(crate::specs::Calls::acted, crate::specs::Calls::worked, crate::specs::Calls::writes, crate::specs::Calls::id_after, crate::specs::Calls::last_after, crate::specs::Calls::moment_after, buffered::specs::Staging::written_all))]
 fn chunk_finished(w: LogFileWriter, image: &mut [u8], staging: &mut [u8], crc: u32) -> LogFileWriter
     requires { Room (store image.old staging.old w.file) 4 × (crc ≡ sum_of w.moment) }
     ensures { machine result image.new staging.new ≡ acted (machine w image.old staging.old) finishing }
@@ -272,6 +284,7 @@ fn chunk_finished(w: LogFileWriter, image: &mut [u8], staging: &mut [u8], crc: u
 }
 
 // Writes the CRC and reports position, CRC, length. Refused with 12, 6 unless in a chunk, 8 with bytes owed: the chunk stays open.
+#[tactic(auto, unfolding(crate::specs::Calls::called, crate::specs::Calls::refusal, crate::specs::State::valid, crate::specs::Calls::reports))]
 pub fn finish(w: LogFileWriter, image: &mut [u8], staging: &mut [u8]) -> Finished
     ensures { FinishAllows w image.old staging.old result image.new staging.new }
 {
@@ -302,6 +315,7 @@ pub fn finish(w: LogFileWriter, image: &mut [u8], staging: &mut [u8]) -> Finishe
 
 // ---- commit
 
+#[tactic(auto, unfolding(crate::specs::Calls::checks))]
 fn commit_refusal(w: LogFileWriter, image: usize, staging: usize) -> u8
     ensures { result ≡ refusal_with w image staging committing }
 {
@@ -310,6 +324,7 @@ fn commit_refusal(w: LogFileWriter, image: usize, staging: usize) -> u8
     lists::refuse_if(!crate::is_valid(w, image, staging), 12, now)
 }
 
+#[tactic(auto, unfolding(crate::specs::Calls::acted, crate::specs::Calls::worked, crate::specs::Calls::writes, crate::specs::Calls::id_after, crate::specs::Calls::last_after, crate::specs::Calls::moment_after, buffered::specs::Staging::written_all))]
 fn entry_committed(w: LogFileWriter, image: &mut [u8], staging: &mut [u8], id: u64) -> LogFileWriter
     requires { Room (store image.old staging.old w.file) 1 × (id ≡ entry_id w.moment) }
     ensures { machine result image.new staging.new ≡ acted (machine w image.old staging.old) committing }
@@ -321,6 +336,7 @@ fn entry_committed(w: LogFileWriter, image: &mut [u8], staging: &mut [u8], id: u
 }
 
 // Writes 03, and reports the entry's id and the logical position behind it. Refused with 12, 6 unless in an entry with no chunk open.
+#[tactic(auto, unfolding(crate::specs::Calls::called, crate::specs::Calls::refusal, crate::specs::State::valid, crate::specs::Calls::reports))]
 pub fn commit(w: LogFileWriter, image: &mut [u8], staging: &mut [u8]) -> Committed
     ensures { CommitAllows w image.old staging.old result image.new staging.new }
 {
@@ -343,6 +359,7 @@ pub fn commit(w: LogFileWriter, image: &mut [u8], staging: &mut [u8]) -> Committ
 
 // ---- rollback
 
+#[tactic(auto, unfolding(crate::specs::Calls::checks))]
 fn rollback_refusal(w: LogFileWriter, image: usize, staging: usize) -> u8
     ensures { result ≡ refusal_with w image staging rolling }
 {
@@ -352,6 +369,7 @@ fn rollback_refusal(w: LogFileWriter, image: usize, staging: usize) -> u8
 }
 
 // Goes back to the entry's start, also from inside a chunk. Refused with 12, 6 when idle.
+#[tactic(auto, unfolding(crate::specs::Calls::called, crate::specs::Calls::refusal, crate::specs::State::valid, crate::specs::Calls::reports, crate::specs::Calls::acted, crate::specs::Calls::worked, crate::specs::Calls::writes, crate::specs::Calls::id_after, crate::specs::Calls::last_after, crate::specs::Calls::moment_after, buffered::specs::Staging::back_to))]
 pub fn rollback(w: LogFileWriter, image: &mut [u8], staging: &mut [u8]) -> Answered
     ensures { RollbackAllows w image.old staging.old result image.new staging.new }
 {

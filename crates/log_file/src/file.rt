@@ -11,20 +11,20 @@ use buffered::Buffered;
 use buffered::seek::{Landing, SeekFrom};
 
 // A number of the state.
-#[derive(Drop)]
+#[derive(Clone, Copy)]
 pub enum Number {
     Of(usize),
     Refused(u8),
 }
 
-#[derive(Drop)]
+#[derive(Clone, Copy)]
 pub enum Flag {
     Yes,
     No,
     Refused(u8),
 }
 
-#[derive(Drop)]
+#[derive(Clone, Copy)]
 pub enum LastAnswer {
     Last(LastId),
     Refused(u8),
@@ -32,12 +32,14 @@ pub enum LastAnswer {
 
 // ---- the moment does not matter, or is idle
 
+#[tactic(auto, unfolding(crate::specs::Calls::checks))]
 fn any_refusal(w: LogFileWriter, image: usize, staging: usize) -> u8
     ensures { result ≡ refusal_with w image staging flushing }
 {
     lists::refuse_if(!crate::is_valid(w, image, staging), 12, 0)
 }
 
+#[tactic(auto, unfolding(crate::specs::Calls::checks))]
 fn idle_refusal(w: LogFileWriter, image: usize, staging: usize) -> u8
     ensures { result ≡ refusal_with w image staging (recycling 0) }
 {
@@ -48,6 +50,7 @@ fn idle_refusal(w: LogFileWriter, image: usize, staging: usize) -> u8
 
 // ---- recycle
 
+#[tactic(auto, unfolding(crate::specs::Calls::acted, crate::specs::Calls::worked, crate::specs::Calls::writes, crate::specs::Calls::id_after, crate::specs::Calls::last_after, crate::specs::Calls::moment_after, buffered::specs::Staging::written_all, buffered::specs::Staging::back_to))]
 fn segment_recycled(
     w: LogFileWriter,
     image: &mut [u8],
@@ -66,6 +69,7 @@ fn segment_recycled(
 }
 
 // Begins the segment anew under another id: everything is dropped, and the header is written but not flushed. Refused with 12, 6 unless idle.
+#[tactic(auto, unfolding(crate::specs::Calls::called, crate::specs::Calls::refusal, crate::specs::State::valid, crate::specs::Calls::reports, crate::specs::Calls::checks))]
 pub fn recycle(w: LogFileWriter, image: &mut [u8], staging: &mut [u8], id: u64) -> Answered
     ensures { RecycleAllows w image.old staging.old id result image.new staging.new }
 {
@@ -85,6 +89,7 @@ pub fn recycle(w: LogFileWriter, image: &mut [u8], staging: &mut [u8], id: u64) 
 // ---- flush and synchronize
 
 // Staged bytes go to the image. Refused with 12.
+#[tactic(auto, unfolding(crate::specs::Calls::called, crate::specs::Calls::refusal, crate::specs::State::valid, crate::specs::Calls::reports, crate::specs::Calls::checks, crate::specs::Calls::acted, crate::specs::Calls::worked, crate::specs::Calls::writes, crate::specs::Calls::id_after, crate::specs::Calls::last_after, crate::specs::Calls::moment_after))]
 pub fn flush(w: LogFileWriter, image: &mut [u8], staging: &mut [u8]) -> Answered
     ensures { FlushAllows w image.old staging.old result image.new staging.new }
 {
@@ -107,6 +112,7 @@ pub fn flush(w: LogFileWriter, image: &mut [u8], staging: &mut [u8]) -> Answered
 
 // Notes that everything below the file position is on the device, after a flush where t lies past that; nothing where so much as t is noted already. A
 // t past the end is allowed. Refused with 12.
+#[tactic(auto, unfolding(crate::specs::Calls::called, crate::specs::Calls::refusal, crate::specs::State::valid, crate::specs::Calls::reports, crate::specs::Calls::checks, crate::specs::Calls::acted, crate::specs::Calls::worked, crate::specs::Calls::writes, crate::specs::Calls::id_after, crate::specs::Calls::last_after, crate::specs::Calls::moment_after))]
 pub fn synchronize(w: LogFileWriter, image: &mut [u8], staging: &mut [u8], t: u64) -> Answered
     ensures { SynchronizeAllows w image.old staging.old t result image.new staging.new }
 {
@@ -130,6 +136,7 @@ pub fn synchronize(w: LogFileWriter, image: &mut [u8], staging: &mut [u8], t: u6
 // ---- landing places
 
 // Where a seek would land: counted from 0, the file length or the logical position. Refused with 12, 11 below 0 or past the image size.
+#[tactic(auto, unfolding(crate::specs::Calls::called, crate::specs::Calls::refusal, crate::specs::State::valid, crate::specs::Calls::reports, crate::specs::Calls::checks, crate::specs::Calls::acted, crate::specs::Calls::worked, crate::specs::Calls::writes, crate::specs::Calls::id_after, crate::specs::Calls::last_after, crate::specs::Calls::moment_after))]
 pub fn seek(w: LogFileWriter, image: &[u8], staging: &[u8], from: SeekFrom) -> Landing
     ensures { SeekAllows w image.now staging.now from result }
 {
@@ -144,6 +151,7 @@ pub fn seek(w: LogFileWriter, image: &[u8], staging: &[u8], from: SeekFrom) -> L
 // ---- plain reads: no buffers are brought, so 12 is for the state's own rules
 
 // The logical position.
+#[tactic(auto, unfolding(crate::specs::Reads::read))]
 pub fn position(w: LogFileWriter) -> Number
     ensures { PositionAllows w result }
 {
@@ -154,6 +162,7 @@ pub fn position(w: LogFileWriter) -> Number
 }
 
 // The file position.
+#[tactic(auto, unfolding(crate::specs::Reads::read))]
 pub fn buffer_position(w: LogFileWriter) -> Number
     ensures { BufferPositionAllows w result }
 {
@@ -164,6 +173,7 @@ pub fn buffer_position(w: LogFileWriter) -> Number
 }
 
 // Whether everything up to the logical position is on the device.
+#[tactic(auto, unfolding(crate::specs::Reads::read))]
 pub fn is_synchronized(w: LogFileWriter) -> Flag
     ensures { IsSynchronizedAllows w result }
 {
@@ -177,6 +187,7 @@ pub fn is_synchronized(w: LogFileWriter) -> Flag
 }
 
 // The id of the last entry that was committed.
+#[tactic(auto, unfolding(crate::specs::Reads::read))]
 pub fn last_entry_id(w: LogFileWriter) -> LastAnswer
     ensures { LastEntryIdAllows w result }
 {

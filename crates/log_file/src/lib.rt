@@ -1,5 +1,7 @@
 // The segment writer (okaywal's log_file.rs and entry.rs): the state by value, image and staging lent. Every call answers any state, any buffers and
 // any arguments: with what it did, or with the number of its refusal, and then nothing has changed.
+#![tactic(auto)]
+
 ghost use Rattle.std.specs.Prelude.{◌≡◌, length, ◌+◌, ◌≤◌};
 ghost use Rattle.lists.specs.Answers.{all};
 ghost use Rattle.buffered.specs.Staging.{store, written_all, Room};
@@ -13,14 +15,14 @@ pub mod file;
 pub mod opening;
 
 // The id of the last entry that was committed.
-#[derive(Drop)]
+#[derive(Clone, Copy)]
 pub enum LastId {
     Nothing,
     Of(u64),
 }
 
 // Idle, in an entry that knows its start, or in a chunk of n bytes that knows its entry, the bytes it owes and the sum of those it got.
-#[derive(Drop)]
+#[derive(Clone, Copy)]
 pub enum Moment {
     Idle,
     InEntry {
@@ -36,7 +38,7 @@ pub enum Moment {
     },
 }
 
-#[derive(Drop)]
+#[derive(Clone, Copy)]
 pub struct LogFileWriter {
     // the segment's id
     pub id: u64,
@@ -51,14 +53,14 @@ pub struct LogFileWriter {
     pub moment: Moment,
 }
 
-#[derive(Drop)]
+#[derive(Clone, Copy)]
 pub enum Answer {
     Accepted,
     Refused(u8),
 }
 
 // The answer of a call that reports nothing.
-#[derive(Drop)]
+#[derive(Clone, Copy)]
 pub struct Answered {
     pub writer: LogFileWriter,
     pub answer: Answer,
@@ -115,7 +117,7 @@ fn in_chunk(m: Moment) -> bool
 }
 
 // The numbers of a moment, 0 where it has none.
-#[derive(Drop)]
+#[derive(Clone, Copy)]
 struct Numbers {
     id: u64,
     start: usize,
@@ -219,6 +221,7 @@ fn moment_ok(m: Moment, position: usize, size: usize) -> bool
     lists::within(position, reserve_of(m), size) & open_ok(m, position)
 }
 
+#[tactic(auto, unfolding(crate::specs::State::ruled))]
 fn rules_hold(w: LogFileWriter) -> bool
     ensures { result ≡ ruled w }
 {
@@ -254,6 +257,7 @@ fn rewrite(w: LogFileWriter, id: u64, file: Buffered, last: LastId, moment: Mome
 }
 
 // The header in its three writes: the mark and version 0, the length byte, the version info.
+#[tactic(auto, unfolding(buffered::specs::Staging::written_all))]
 fn put_header(file: Buffered, image: &mut [u8], staging: &mut [u8], info: &[u8]) -> Buffered
     requires { Room (store image.old staging.old file) (5 + length info.now) × (length info.now ≤ 255) }
     ensures { store image.new staging.new result ≡ written_all (store image.old staging.old file) (heading info.now) }

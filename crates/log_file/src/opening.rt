@@ -23,6 +23,7 @@ fn range_refusal(p: u64, l: u64, f: u64, image: usize, staging: usize) -> u8
 }
 
 // The file length that the opening makes: max(ceil(l / p), 1) times p.
+#[tactic(auto, unfolding(crate::specs::Opening::padded))]
 fn padded_length(l: u64, p: u64) -> u64
     requires { (1 ≤ p) × (p ≤ 4294967295) × (l ≤ 1048576) }
     ensures { result ≡ padded l p }
@@ -56,6 +57,7 @@ fn open_refusal(p: u64, v: usize, l: u64, f: u64, image: usize, staging: usize) 
 // ---- the deed
 
 // Zeros from f to p, and as many from l on.
+#[tactic(auto, unfolding(crate::specs::Opening::prepared))]
 fn prepare(image: &mut [u8], p: usize, l: usize, f: usize) -> Buffered
     requires { (l ≤ f) × (f ≤ length image.old) × (p ≤ length image.old) }
     ensures { (image.new ≡ prepared image.old p l f) × (result ≡ record { length = max f p; position = l; staged = 0; synchronized = l }) }
@@ -72,6 +74,7 @@ fn prepare(image: &mut [u8], p: usize, l: usize, f: usize) -> Buffered
 }
 
 // The header, written and flushed, where the opening is fresh.
+#[tactic(auto, unfolding(crate::specs::Opening::headed))]
 fn head(file: Buffered, image: &mut [u8], staging: &mut [u8], info: &[u8], l: usize) -> Buffered
     requires { Room (store image.old staging.old file) 0 × (length info.now ≤ 255) × (file.position ≡ l) × (file.staged ≡ 0) × (5 + length info.now ≤ length image.old) }
     ensures { store image.new staging.new result ≡ headed info.now l (store image.old staging.old file) }
@@ -114,6 +117,7 @@ fn blank() -> LogFileWriter
     }
 }
 
+#[tactic(auto, unfolding(crate::specs::Opening::opened_machine, crate::specs::Opening::unheaded))]
 fn opened_writer(
     id: u64,
     last: LastId,
@@ -146,6 +150,7 @@ fn opened_writer(
 
 // Opens a segment that is valid up to validated_length in a file of file_length bytes. Refused with 12 for a number out of its range, 4 for a version
 // info over 255 bytes, 5 where padding or header has no room: the state handed back is then one of zeros, and the buffers stay.
+#[tactic(auto, unfolding(crate::specs::Opening::opened, crate::specs::Opening::open_refusal))]
 pub fn open(
     id: u64,
     last: LastId,
