@@ -55,9 +55,9 @@ states x y = ap (λ (k : Step). k.reader) (x ∙ sym y)
 replies : {r s : SegmentReader} {a b : Reply} {d : Step} → step r a ≡ d → step s b ≡ d → a ≡ b
 replies x y = ap (λ (k : Step). k.reply) (x ∙ sym y)
 
-module _ (p : ℕ × ℕ) (g : ℕ) where
+module _ (p : ℕ × ℕ) where
   abbrev lent : Bor (List ℕ)
-  lent = record { ref_ptr = p; ghost_name = g; now = bytes }
+  lent = record { ref_ptr = p; now = bytes }
 
   -- ---- what is allowed
 
@@ -97,10 +97,10 @@ module _ (p : ℕ × ℕ) (g : ℕ) where
     pub not-further : HeldOpenAllows 1 lent (record { reader = held lent (state 6 Between); answer = IsOpened }) → ⊥
     -- another state than the one given; a copy of the bytes elsewhere
     pub not-other : HeldNewAllows lent fresh (held lent in_entry) → ⊥
-    pub not-copied : HeldNewAllows lent fresh (held (record { ref_ptr = p; ghost_name = g + 1; now = bytes }) fresh) → ⊥
+    pub not-copied : HeldNewAllows lent fresh (held (record { ref_ptr = (p.0 + 1, p.1); now = bytes }) fresh) → ⊥
     -- the state that it had; the image lost
     pub not-stayed : HeldWithStateAllows (held lent fresh) in_entry (held lent fresh) → ⊥
-    pub not-emptied : HeldWithStateAllows (held lent fresh) in_entry (held (record { ref_ptr = p; ghost_name = g; now = [] }) in_entry) → ⊥
+    pub not-emptied : HeldWithStateAllows (held lent fresh) in_entry (held (record { ref_ptr = p; now = [] }) in_entry) → ⊥
     -- nothing; all that is owed, though two were asked for
     pub not-nothing : HeldBytesAllows (held lent (in_chunk 19 3)) 2 [] → ⊥
     pub not-all : HeldBytesAllows (held lent (in_chunk 19 3)) 2 (7 ∷ 8 ∷ 9 ∷ []) → ⊥
@@ -126,7 +126,7 @@ module _ (p : ℕ × ℕ) (g : ℕ) where
         not-refused = λ h. let e : told [] ≡ refusal 1 = replies opens.1 h.1 in let z : ◌≡◌ {A = ℕ} 0 1 = cc in absurd (omega arith);
         not-further = λ h. let e : ◌≡◌ {A = ℕ} 5 6 = ap (λ (k : SegmentReader). k.place) (states opens.1 h.1) in absurd (omega arith);
         not-other = λ h. let e : ◌≡◌ {A = ℕ} 14 5 = ap (λ (k : Reader). k.state.place) h in absurd (omega arith);
-        not-copied = λ h. let e : g + 1 ≡ g = ap (λ (k : Reader). k.image.name) h in absurd (omega arith);
+        not-copied = λ h. let e : p.0 + 1 ≡ p.0 = ap (λ (k : Reader). k.image.ref_ptr.0) h in absurd (omega arith);
         not-stayed = λ h. let e : ◌≡◌ {A = ℕ} 5 14 = ap (λ (k : Reader). k.state.place) h in absurd (omega arith);
         not-emptied = λ h. let e : ◌≡◌ {A = ℕ} 0 0x6F = ap (λ (k : Reader). get_or k.image.now 0 0) h in absurd (omega arith);
         not-nothing = λ h. let e : ◌≡◌ {A = ℕ} 7 0 = ap (λ (k : List ℕ). get_or k 0 0) (two_bytes ∙ sym h) in absurd (omega arith);

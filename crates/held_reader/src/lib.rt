@@ -1,6 +1,8 @@
 // The thin reader: the caller's image and a reader's state over it, held together (document 01, "It holds the caller's image and a place in it"). Each
 // call takes the struct apart and leaves the work, every branch too, to one call of segment_reader; none requires anything. What each answers is
-// specs/Held. A function that has a `Reader` among its parameters or locals is proved by hand; a caller of first_whole is not.
+// specs/Held.
+#![tactic(auto)]
+
 ghost use Rattle.std.specs.Prelude.{◌≡◌};
 ghost use Rattle.segment_reader.specs.Promises.{ReadEntryAllows, ReadChunkAllows, CheckCrcAllows, ReadAllows, AfterReadAllows};
 ghost use Rattle.held_reader.specs.Held.{HeldOpenAllows, HeldNewAllows, HeldWithStateAllows, HeldBytesAllows, HeldAfterBytesAllows, HeldCheckCrcAllows, HeldEntryAllows, HeldChunkAllows, HeldWholeAllows, FirstWholeAllows, FirstChunksAllows, FirstBytesAllows, FirstCrcAllows, at_first_chunk};
@@ -11,14 +13,14 @@ use segment_reader::{
 };
 
 // The caller's own image, and the state that the next call begins with.
-#[derive(Drop)]
+#[derive(Clone, Copy)]
 pub struct Reader<'a> {
     pub image: &'a [u8],
     pub state: SegmentReader,
 }
 
 // A reader, and whether its opening was refused: then its state is all zeros and ended.
-#[derive(Drop)]
+#[derive(Clone, Copy)]
 pub struct Opened<'a> {
     pub reader: Reader<'a>,
     pub answer: OpenAnswer,
@@ -102,7 +104,7 @@ impl<'a> Reader<'a> {
 }
 
 // The first entry of a segment: whether the segment opened, whether it has an entry, and that entry whole.
-#[derive(Drop)]
+#[derive(Clone, Copy)]
 pub struct FirstWhole {
     pub opening: OpenAnswer,
     pub entry: EntryAnswer,
@@ -110,7 +112,7 @@ pub struct FirstWhole {
 }
 
 // Opens a reader, reads the first entry, and reads it whole: all three answers, and the state behind them. Where there is no such entry the last one
-// is refused, with 12 or 6. Its parameters are plain, so whoever calls it needs no walk.
+// is refused, with 12 or 6.
 pub fn first_whole(image: &[u8], file_id: u64) -> FirstWhole
     ensures { FirstWholeAllows file_id image.now result }
 {
@@ -124,7 +126,8 @@ pub fn first_whole(image: &[u8], file_id: u64) -> FirstWhole
     }
 }
 
-// How many chunks the first entry has, where there is one and it is whole; else 0. It calls first_whole, and is covered.
+// How many chunks the first entry has, where there is one and it is whole; else 0.
+#[tactic(auto, unfolding(crate::specs::Held::chunks_in))]
 pub fn first_chunks(image: &[u8], file_id: u64) -> u64
     ensures { FirstChunksAllows file_id image.now result }
 {
@@ -171,7 +174,7 @@ fn crc_of(image: &[u8], state: SegmentReader) -> CrcAnswer
     Reader::new(image, state).check_crc()
 }
 
-// ---- the first chunk of the first entry: covered, over the functions above
+// ---- the first chunk of the first entry, over the functions above
 
 // The state in that chunk, before its bytes, where there is one.
 fn first_chunk(image: &[u8], file_id: u64) -> SegmentReader

@@ -6,7 +6,7 @@ use native.Mathlib.Omega.{arith}
 use lib.ListN.{length, get_or}
 use mir.Syntax.{w8}
 use mir.Val.{Fits}
-use Rattle.little_endian.specs.LittleEndianLaws.{Bytes}
+use Rattle.little_endian.specs.LittleEndian.{Bytes}
 use Rattle.segment_reader.specs.Reading.{Part, in_header, in_data, in_sum, Skipped, at, broken, skip, Whole, complete, aborted, cut_off, wrong_sum, whole, Next, seek, pass, after_cut, left, Lead, entry, none, lead}
 use Rattle.segment_reader.specs.ReadingLaws.{nothing-stands, lead-says, skip-other}
 use Rattle.segment_reader.specs.State.{leaving, start_of}
@@ -217,9 +217,11 @@ module _ (image : List ℕ) (bytes : Bytes image) (r : SegmentReader) (ready : R
   passed-by s c h e = entered s.reader (EntryCut c) (rw e at h)
 
   -- a fit reader is not refused
-  pub never-refused : {A : Type 0} (s : EntryStep) (n : ℕ) → ReadEntryAllows r image s → s.answer ≡ NoEntry n → A
-  never-refused s n h e = absurd (entered s.reader (NoEntry n) (rw e at h))
+  pub never-refused : (s : EntryStep) (n : ℕ) → ReadEntryAllows r image s → s.answer ≡ NoEntry n → ⊥
+  never-refused s n h e = entered s.reader (NoEntry n) (rw e at h)
 
 -- what is known of a slice's elements
 pub are-bytes : (s : List ℕ) → ((i : ℕ) → Fits w8 (get_or s i 0)) → Bytes s
 are-bytes s h = λ i l. let z = h i in omega arith
+
+pub ruleset turns = (are-bytes, found-by, over_by, passed-by, never-refused)

@@ -163,3 +163,5 @@ module _ (file : ℕ) (image before list : List ℕ) (r : SegmentReader) (met fu
   going-over v s =
       let l : lead file image (where_to image r) ≡ none = rw g.file-same at s.ends in
       sym (g.rest ∙ ap (survey_of list met full) (read-ended file image (where_to image r) l) ∙ rw (add-zero met, add-zero full, ← s.valid))
+
+pub ruleset going = (going-begins, going-refused, going_on, going-past, going-over)

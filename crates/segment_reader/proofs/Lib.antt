@@ -1,7 +1,6 @@
--- How functions come out, from the small ones to a whole reading; last, cases and theorems on a few bytes.
-pub mod Returns
+-- The bounds of places, and a whole reading under way; last, cases and theorems on a few bytes.
+pub mod Bounds
 pub mod Count
-pub mod Halves
 pub mod Entered
 pub mod Going
 pub mod Examples

@@ -1,7 +1,7 @@
 -- The round trip over the code's own calls: what `read_segment`, which makes them, may answer and record of a segment's bytes.
 use Rattle.std.specs.Prelude.{ℕ, suc, ◌+◌, ◌≤◌, ◌≡◌, refl, List, [], ◌∷◌, ◌++◌, length, replicate}
 use Rattle.std.proofs.Common.{arith, zero-add, sym, ap, ap₂, ◌∙◌, le-leb}
-use Rattle.entry.specs.Format.{Entry, segment, largest_image}
+use Rattle.entry.specs.Format.{Entry, entry, segment, largest_image}
 use Rattle.segment_reader.specs.Reading.{Opened, opens, refuses, opened}
 use Rattle.segment_reader.specs.WholeReading
 use Rattle.segment_reader.specs.WholeReading.{Found, Reading, read, read_from}
@@ -33,12 +33,12 @@ survey-reads file image list r h e = rw (le-leb _ _ h) (surveys file image list 
 length_found : (p : ℕ) (es : List Entry) → length (as_found p es) ≡ length es
 unfolding as_found
 length_found p [] = refl
-length_found p (e ∷ es) = ap suc (length_found _ es)
+length_found p (e ∷ es) = ap suc (length_found (p + length (entry e)) es)
 
 all-complete : (p : ℕ) (es : List Entry) → completes (as_found p es) ≡ length es
 unfolding as_found completes one_if
 all-complete p [] = refl
-all-complete p (e ∷ es) = rw (all-complete _ es) (omega arith)
+all-complete p (e ∷ es) = rw (all-complete (p + length (entry e)) es) (omega arith)
 
 -- any writable entries, zeros behind them: each is met and complete, in order, and `valid_until` is their end. `recorded` notes each one's id, the
 -- place where its chunks begin and how many there are; what stands there are its chunks (`yielded` of `round-trip-zeros`).

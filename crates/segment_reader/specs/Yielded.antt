@@ -1,11 +1,10 @@
 -- What the round trip speaks of: how a reading finds them, and which entries a reading yields, with the data that the
 -- image holds. The theorems are in `RoundTrip` and `Soundness`.
-use Rattle.std.specs.Prelude.{◌≡◌, ℕ, ◌+◌, ◌-◌, ◌^◌, ◌≤◌, ◌<◌, length}
+use Rattle.std.specs.Prelude.{◌≡◌, ℕ, ◌+◌, ◌-◌, ◌≤◌, length}
 use mathlib.Core.List.{List, [], ◌∷◌, ◌++◌, flat_map}
 use Rattle.lists.specs.Stream.{part}
 use Rattle.entry.specs.Format.{Entry, entry, segment}
 use Rattle.entry.specs.Writable.{Writable}
-use Rattle.lists.specs.All.{All}
 use Rattle.segment_reader.specs.Reading.{Whole, complete, aborted, cut_off, wrong_sum, chunks_at, left}
 use Rattle.segment_reader.specs.WholeReading.{Found, Reading, after, onward, read, read_segment}
 

@@ -1,5 +1,7 @@
 // Reads a segment (okaywal's log_file.rs: SegmentReader, Entry, EntryChunk). The state goes in by value and comes back, the image is lent and is never
 // written. No call requires anything: any state, any image. What each call answers is specs/Calls.
+#![tactic(auto)]
+
 ghost use Rattle.segment_reader.specs.Promises.{NewAllows, ReadEntryAllows, ReadChunkAllows, ReadAllows, AfterReadAllows, CheckCrcAllows, SkipAllows, ReadAllChunksAllows, VersionInfoAllows};
 
 pub mod marks;
@@ -13,7 +15,7 @@ use state::{Open, Start, fits, moved_to, open_of, start_of};
 use steps::{chunk_at, crc_in, entry_at, entry_past, handed_out, refused_opening, whole_at};
 
 // The moment of a reader: no entry is current; in an entry; in a chunk of n bytes whose 02 stands at mark, with owed of them still to be read; ended.
-#[derive(Drop)]
+#[derive(Clone, Copy)]
 pub enum Moment {
     Between,
     InEntry {
@@ -30,7 +32,7 @@ pub enum Moment {
 
 // A reader: the file's id, the size of the image that it was opened over, the length of the version info that it found there, its place, which may lie
 // past the image, the end of the valid bytes, and the moment.
-#[derive(Drop)]
+#[derive(Clone, Copy)]
 pub struct SegmentReader {
     pub file_id: u64,
     pub size: u64,
@@ -41,7 +43,7 @@ pub struct SegmentReader {
 }
 
 // The part of a chunk that the image's end cuts.
-#[derive(Drop)]
+#[derive(Clone, Copy)]
 pub enum CutPart {
     Header,
     Data,
@@ -49,26 +51,26 @@ pub enum CutPart {
 }
 
 // A chunk that is cut: in which part, the offset of its 02, and how many bytes that part lacks.
-#[derive(Drop)]
+#[derive(Clone, Copy)]
 pub struct ChunkCut {
     pub part: CutPart,
     pub mark: u64,
     pub lacks: u64,
 }
 
-#[derive(Drop)]
+#[derive(Clone, Copy)]
 pub enum OpenAnswer {
     Opened,
     Refused(u8),
 }
 
-#[derive(Drop)]
+#[derive(Clone, Copy)]
 pub struct Opening {
     pub reader: SegmentReader,
     pub answer: OpenAnswer,
 }
 
-#[derive(Drop)]
+#[derive(Clone, Copy)]
 pub enum EntryAnswer {
     Entry { id: u64 },
     Ended,
@@ -76,14 +78,14 @@ pub enum EntryAnswer {
     Refused(u8),
 }
 
-#[derive(Drop)]
+#[derive(Clone, Copy)]
 pub struct EntryStep {
     pub reader: SegmentReader,
     pub answer: EntryAnswer,
 }
 
 // A chunk of n bytes, its 02 at mark; the end mark; an aborted entry.
-#[derive(Drop)]
+#[derive(Clone, Copy)]
 pub enum ReadChunkResult {
     Chunk { mark: u64, n: u32 },
     EndOfEntry,
@@ -92,26 +94,26 @@ pub enum ReadChunkResult {
     Refused(u8),
 }
 
-#[derive(Drop)]
+#[derive(Clone, Copy)]
 pub struct ChunkStep {
     pub reader: SegmentReader,
     pub answer: ReadChunkResult,
 }
 
 // The place that the part began at, and its length.
-#[derive(Drop)]
+#[derive(Clone, Copy)]
 pub enum ReadAnswer {
     Read { place: u64, count: u32 },
     Refused(u8),
 }
 
-#[derive(Drop)]
+#[derive(Clone, Copy)]
 pub struct ReadStep {
     pub reader: SegmentReader,
     pub answer: ReadAnswer,
 }
 
-#[derive(Drop)]
+#[derive(Clone, Copy)]
 pub enum CrcAnswer {
     Right,
     Wrong,
@@ -119,20 +121,20 @@ pub enum CrcAnswer {
     Refused(u8),
 }
 
-#[derive(Drop)]
+#[derive(Clone, Copy)]
 pub enum SkipAnswer {
     Skipped,
     Refused(u8),
 }
 
-#[derive(Drop)]
+#[derive(Clone, Copy)]
 pub struct SkipStep {
     pub reader: SegmentReader,
     pub answer: SkipAnswer,
 }
 
 // The place that a whole entry began at, and the number of chunks that stand there back to back. A wrong CRC is refused with 10.
-#[derive(Drop)]
+#[derive(Clone, Copy)]
 pub enum WholeAnswer {
     Whole { place: u64, chunks: u64 },
     Aborted,
@@ -140,7 +142,7 @@ pub enum WholeAnswer {
     Refused(u8),
 }
 
-#[derive(Drop)]
+#[derive(Clone, Copy)]
 pub struct WholeStep {
     pub reader: SegmentReader,
     pub answer: WholeAnswer,
@@ -148,6 +150,7 @@ pub struct WholeStep {
 
 impl SegmentReader {
     // Opens a reader over the image, before its first entry. Refused with 12, 1, 2, 3, 1, in this order; the reader is then all zeros and ended.
+    #[tactic(auto, unfolding(crate::specs::Calls::new, crate::specs::Calls::opened_with))]
     pub fn new(image: &[u8], file_id: u64) -> Opening
         ensures { NewAllows file_id image.now result }
     {
@@ -171,6 +174,7 @@ impl SegmentReader {
     }
 
     // The next entry, or the end; what is left of a current entry is skipped. Refused with 12; 9 where a chunk's header is cut on the way.
+    #[tactic(auto, unfolding(crate::specs::Calls::read_entry, crate::specs::Calls::entry_from))]
     pub fn read_entry(self, image: &[u8]) -> EntryStep
         ensures { ReadEntryAllows self image.now result }
     {
@@ -189,6 +193,7 @@ impl SegmentReader {
     }
 
     // The next chunk of the current entry, its end, or that it is aborted. Refused with 12, 6; 9 where the chunk's header is cut.
+    #[tactic(auto, unfolding(crate::specs::Calls::read_chunk, crate::specs::Calls::chunk_from))]
     pub fn read_chunk(self, image: &[u8]) -> ChunkStep
         ensures { ReadChunkAllows self image.now result }
     {
@@ -211,6 +216,7 @@ impl SegmentReader {
 
     // The bytes of the open chunk from the place on, at most so many as are asked for, owed and present: a part of the image. Empty beside a refusal;
     // `after_read` says which, and hands back the reader behind them.
+    #[tactic(auto, unfolding(crate::specs::Calls::read_bytes, crate::specs::Calls::bytes_in))]
     pub fn read(self, image: &[u8], asked: u64) -> &[u8]
         ensures { ReadAllows self image.now asked result.now }
     {
@@ -230,6 +236,7 @@ impl SegmentReader {
     }
 
     // The same read as numbers: where the part begins, how long it is, and the reader behind it. Refused with 12, 6.
+    #[tactic(auto, unfolding(crate::specs::Calls::read, crate::specs::Calls::read_in))]
     pub fn after_read(self, image: &[u8], asked: u64) -> ReadStep
         ensures { AfterReadAllows self image.now asked result }
     {
@@ -257,6 +264,7 @@ impl SegmentReader {
     }
 
     // Whether the open chunk's stored CRC is that of its data. Refused with 12, 6, also while bytes are owed; 9 where the CRC is cut. Nothing moves.
+    #[tactic(auto, unfolding(crate::specs::Calls::check_crc, crate::specs::Calls::check_in), using(crate::proofs::Bounds::open_near))]
     pub fn check_crc(self, image: &[u8]) -> CrcAnswer
         ensures { CheckCrcAllows self image.now result }
     {
@@ -272,6 +280,7 @@ impl SegmentReader {
     }
 
     // Leaves the open chunk, for the place behind its CRC, which is not checked. Refused with 12, 6.
+    #[tactic(auto, unfolding(crate::specs::Calls::skip_remaining, crate::specs::Calls::skip_in), using(crate::proofs::Bounds::open_near))]
     pub fn skip_remaining_bytes(self, image: &[u8]) -> SkipStep
         ensures { SkipAllows self image.now result }
     {
@@ -294,6 +303,7 @@ impl SegmentReader {
 
     // The rest of the current entry, each chunk's CRC checked: where its chunks begin and how many there are, or that it is aborted. Refused with 12, 6;
     // 9 where a chunk is cut; 10 where a stored CRC differs.
+    #[tactic(auto, unfolding(crate::specs::Calls::read_all_chunks, crate::specs::Calls::whole_from))]
     pub fn read_all_chunks(self, image: &[u8]) -> WholeStep
         ensures { ReadAllChunksAllows self image.now result }
     {
@@ -315,6 +325,7 @@ impl SegmentReader {
     }
 
     // The version info that the reader found: a part of the image, empty beside 12.
+    #[tactic(auto, unfolding(crate::specs::Calls::version_info))]
     pub fn version_info(self, image: &[u8]) -> &[u8]
         ensures { VersionInfoAllows self image.now result.now }
     {

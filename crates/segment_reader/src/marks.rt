@@ -8,14 +8,14 @@ ghost use Rattle.segment_reader.specs.Shapes.{head_as, mark_as, lead_as, opened_
 use crate::{ChunkCut, CutPart};
 
 // A chunk's header: its length, or how many bytes it lacks.
-#[derive(Drop)]
+#[derive(Clone, Copy)]
 pub enum Head {
     Whole { n: u32 },
     Short { lacks: u64 },
 }
 
 // A chunk, a chunk whose header is cut, the end mark, or anything else, nothing too.
-#[derive(Drop)]
+#[derive(Clone, Copy)]
 pub enum Mark {
     Chunk { n: u32 },
     Cut { lacks: u64 },
@@ -24,14 +24,14 @@ pub enum Mark {
 }
 
 // An entry begins, or none does.
-#[derive(Drop)]
+#[derive(Clone, Copy)]
 pub enum Lead {
     Entry { id: u64 },
     None,
 }
 
 // The segment's header: the length of the version info, or the number of its refusal.
-#[derive(Drop)]
+#[derive(Clone, Copy)]
 pub enum SegmentHeader {
     Info(u8),
     Refused(u8),
@@ -55,6 +55,7 @@ pub(crate) fn mark_at(image: &[u8], place: u64) -> u8
 }
 
 // The header of the chunk whose 02 stands at the place.
+#[tactic(auto, unfolding(crate::specs::Reading::standing))]
 pub(crate) fn head_at(image: &[u8], place: u64) -> Head
     requires { get_or image.now place 0 ≡ 2 }
     ensures { head_as result ≡ standing image.now place }
@@ -71,6 +72,7 @@ pub(crate) fn head_at(image: &[u8], place: u64) -> Head
     }
 }
 
+#[tactic(auto, unfolding(crate::specs::Reading::standing))]
 pub(crate) fn look_at(image: &[u8], place: u64) -> Mark
     ensures { mark_as result ≡ standing image.now place }
 {
@@ -86,6 +88,7 @@ pub(crate) fn look_at(image: &[u8], place: u64) -> Mark
 }
 
 // The entry that begins at a place.
+#[tactic(auto, unfolding(crate::specs::Reading::lead))]
 pub(crate) fn lead_at(image: &[u8], place: u64, file_id: u64) -> Lead
     ensures { lead_as result ≡ lead file_id image.now place }
 {
@@ -105,6 +108,7 @@ pub(crate) fn lead_at(image: &[u8], place: u64, file_id: u64) -> Lead
 }
 
 // The segment's header, tested in the order 1, 2, 3, 1.
+#[tactic(auto, unfolding(crate::specs::Reading::opened))]
 pub(crate) fn header_of(image: &[u8]) -> SegmentHeader
     ensures { opened_as result ≡ opened image.now }
 {
@@ -138,6 +142,7 @@ pub(crate) fn part_of(image: &[u8], place: u64, count: u64) -> &[u8]
 }
 
 // The sum of a chunk of n bytes with this data.
+#[tactic(auto, unfolding(entry::specs::Format::chunk_sum, entry::specs::Format::covered))]
 fn chunk_sum(n: u32, data: &[u8]) -> u32
     ensures { result ≡ chunk_sum n «data».now }
 {
@@ -155,6 +160,7 @@ pub(crate) fn matches_at(image: &[u8], place: u64, n: u32) -> bool
 }
 
 // Where a chunk that does not lie inside the image is cut: in its data, else in its sum.
+#[tactic(auto, unfolding(crate::specs::Reading::body_cut))]
 pub(crate) fn body_cut(image: &[u8], place: u64, n: u32) -> ChunkCut
     requires { (place < 2 ^ 63) × (length image.now ≤ place + 9 + n) }
     ensures { cut_as result ≡ body_cut image.now place n }

@@ -9,7 +9,7 @@ use crate::walks::{Next, Whole, left_by};
 use crate::{Moment, SegmentReader};
 
 // Where a call for an entry, a chunk or a whole entry begins, once an open chunk is left.
-#[derive(Drop)]
+#[derive(Clone, Copy)]
 pub enum Start {
     Unfit,
     Over,
@@ -18,7 +18,7 @@ pub enum Start {
 }
 
 // The open chunk that a call needs, or the number of its refusal.
-#[derive(Drop)]
+#[derive(Clone, Copy)]
 pub enum Open {
     Refused(u8),
     Chunk {
@@ -30,6 +30,7 @@ pub enum Open {
 }
 
 // Whether a chunk's numbers say that the place is behind the bytes read of it. No sum is formed that could wrap.
+#[tactic(auto, unfolding(crate::specs::State::stands_at))]
 fn stands_at(mark: u64, n: u32, owed: u32, place: u64) -> bool
     ensures { result ≡ stands_at mark n owed place }
 {
@@ -42,6 +43,7 @@ fn stands_at(mark: u64, n: u32, owed: u32, place: u64) -> bool
     place - mark == 5 + (n - owed) as u64
 }
 
+#[tactic(auto, unfolding(crate::specs::State::in_place))]
 fn in_place(moment: Moment, place: u64) -> bool
     ensures { result ≡ in_place moment place }
 {
@@ -59,6 +61,7 @@ fn in_place(moment: Moment, place: u64) -> bool
 }
 
 // Whether the state is one for an image of this size.
+#[tactic(auto, unfolding(crate::specs::State::fit))]
 pub(crate) fn fits(r: SegmentReader, size: usize) -> bool
     ensures { result ≡ fit r size }
 {
@@ -69,6 +72,7 @@ pub(crate) fn fits(r: SegmentReader, size: usize) -> bool
         & in_place(moment, r.place)
 }
 
+#[tactic(auto, unfolding(crate::specs::State::start_of, crate::specs::State::leaving), using(crate::proofs::Bounds::chunk_near))]
 pub(crate) fn start_of(r: SegmentReader, size: usize) -> Start
     ensures { result ≡ start_of r size }
 {
@@ -92,6 +96,7 @@ pub(crate) fn start_of(r: SegmentReader, size: usize) -> Start
     }
 }
 
+#[tactic(auto, unfolding(crate::specs::State::open_of, crate::specs::State::holding))]
 pub(crate) fn open_of(r: SegmentReader, size: usize) -> Open
     ensures { result ≡ open_of r size }
 {
@@ -134,6 +139,7 @@ pub(crate) fn moved_to(r: SegmentReader, place: u64, moment: Moment) -> SegmentR
 }
 
 // The reader after the entry id, or a part of it: still in it, or in none.
+#[tactic(auto, unfolding(crate::specs::Calls::resting))]
 pub(crate) fn rests(r: SegmentReader, id: u64, w: Whole) -> SegmentReader
     ensures { result ≡ resting r id (left (whole_as w)) }
 {

@@ -31,6 +31,7 @@ pub(crate) fn refused_opening(no: u8) -> Opening
 }
 
 // The entry that begins at the place, which becomes `valid_until`; or the end.
+#[tactic(auto, unfolding(crate::specs::Calls::entry_met), using(crate::proofs::Bounds::lead_inside))]
 pub(crate) fn entry_at(r: SegmentReader, image: &[u8], place: u64) -> EntryStep
     ensures { step result.reader (entry_as result.answer) ≡ entry_at r image.now place }
 {
@@ -47,6 +48,7 @@ pub(crate) fn entry_at(r: SegmentReader, image: &[u8], place: u64) -> EntryStep
 }
 
 // The entry behind what is left of the current one.
+#[tactic(auto, unfolding(crate::specs::Calls::entry_past))]
 pub(crate) fn entry_past(r: SegmentReader, image: &[u8], id: u64, from: u64) -> EntryStep
     ensures { step result.reader (entry_as result.answer) ≡ entry_past r image.now id (skip image.now from) }
 {
@@ -67,6 +69,7 @@ pub(crate) fn entry_past(r: SegmentReader, image: &[u8], id: u64, from: u64) -> 
 }
 
 // The chunk whose 02 stands at the place.
+#[tactic(auto, unfolding(crate::specs::Calls::chunk_met))]
 fn chunk_begun(r: SegmentReader, image: &[u8], id: u64, place: u64) -> ChunkStep
     requires { get_or image.now place 0 ≡ 2 }
     ensures { step result.reader (chunk_as result.answer) ≡ chunk_met r image.now id place (standing image.now place) }
@@ -102,6 +105,7 @@ fn chunk_begun(r: SegmentReader, image: &[u8], id: u64, place: u64) -> ChunkStep
 }
 
 // What stands at the place: 02 is a chunk, 03 is passed and ends the entry, all else aborts it and is not passed.
+#[tactic(auto, unfolding(crate::specs::Calls::chunk_met, crate::specs::Reading::standing))]
 pub(crate) fn chunk_at(r: SegmentReader, image: &[u8], id: u64, place: u64) -> ChunkStep
     ensures { step result.reader (chunk_as result.answer) ≡ chunk_met r image.now id place (standing image.now place) }
 {
@@ -138,6 +142,7 @@ pub(crate) fn handed_out(place: u64, owed: u32, asked: u64, size: usize) -> u32
 }
 
 // Whether the stored CRC of the chunk at mark is that of its data.
+#[tactic(auto, unfolding(crate::specs::Calls::check_at))]
 pub(crate) fn crc_in(image: &[u8], mark: u64, n: u32, owed: u32) -> CrcAnswer
     requires { mark ≤ 8589934592 }
     ensures { crc_as result ≡ check_at image.now mark n owed }
@@ -155,6 +160,7 @@ pub(crate) fn crc_in(image: &[u8], mark: u64, n: u32, owed: u32) -> CrcAnswer
     }
 }
 
+#[tactic(auto, unfolding(crate::specs::Calls::whole_reply))]
 fn whole_answer(from: u64, w: Whole) -> WholeAnswer
     ensures { whole_reply_as result ≡ whole_reply from (whole_as w) }
 {

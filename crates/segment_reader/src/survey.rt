@@ -6,7 +6,7 @@ ghost use Rattle.segment_reader.specs.Turns.{verdict_by, Ready, TurnSays};
 use crate::{EntryAnswer, OpenAnswer, SegmentReader, WholeAnswer};
 
 // The number of entries met, of complete ones, and the end of the valid bytes; or the opening's refusal.
-#[derive(Drop)]
+#[derive(Clone, Copy)]
 pub enum SegmentRead {
     Read {
         met: u64,
@@ -17,7 +17,7 @@ pub enum SegmentRead {
 }
 
 // The verdict of an entry: 1 complete, 2 aborted, 9, 10; the number of its chunks; and 1 where it is complete, else 0.
-#[derive(Drop)]
+#[derive(Clone, Copy)]
 pub struct Verdict {
     pub word: u64,
     pub chunks: u64,
@@ -25,7 +25,7 @@ pub struct Verdict {
 }
 
 // What a turn met: an entry, where its chunks begin, and its verdict; a header that is cut while skipping; the end.
-#[derive(Drop)]
+#[derive(Clone, Copy)]
 pub enum Turn {
     Found {
         reader: SegmentReader,
@@ -65,6 +65,7 @@ fn verdict_of(answer: WholeAnswer) -> Verdict
 }
 
 // Stores the words of the k-th entry, where they fit.
+#[tactic(auto, unfolding(crate::specs::Driver::noted, lists::specs::Lay::lay))]
 fn note(list: &mut [u64], k: u64, verdict: Verdict, id: u64, place: u64)
     ensures { list.new ≡ noted list.old k (verdict.word ∷ id ∷ place ∷ verdict.chunks ∷ []) }
 {
@@ -79,6 +80,7 @@ fn note(list: &mut [u64], k: u64, verdict: Verdict, id: u64, place: u64)
 }
 
 // One call for an entry and, where there is one, one for all its chunks.
+#[tactic(auto, using(crate::proofs::Entered::turns))]
 fn turn_from(r: SegmentReader, image: &[u8]) -> Turn
     requires { Ready image.now r }
     ensures { TurnSays image.now r result }
@@ -106,6 +108,7 @@ fn turn_from(r: SegmentReader, image: &[u8]) -> Turn
 
 // Reads the whole segment, and records in the list, four words an entry, as many entries as fit: verdict (1 complete, 2 aborted, 9, 10), id, the place
 // where its chunks begin, and their number (0 where it is not complete). Words past them stay. Refused as an opening is, and nothing is recorded.
+#[tactic(auto, using(crate::proofs::Going::going))]
 pub fn read_segment(image: &[u8], file_id: u64, list: &mut [u64]) -> SegmentRead
     ensures { ReadSegmentAllows file_id image.now list.old result list.new }
 {

@@ -7,14 +7,14 @@ use crate::marks::{Mark, body_cut, look_at, matches_at};
 use crate::{ChunkCut, CutPart};
 
 // Where the skipping of chunks ends, or the header that is cut.
-#[derive(Drop)]
+#[derive(Clone, Copy)]
 pub enum Skip {
     At(u64),
     Broken(ChunkCut),
 }
 
 // A whole entry: the number of its chunks; or it is aborted, a chunk is cut, a sum differs. With each, the place afterwards.
-#[derive(Drop)]
+#[derive(Clone, Copy)]
 pub enum Whole {
     Complete { count: u64, place: u64 },
     Aborted { place: u64 },
@@ -23,7 +23,7 @@ pub enum Whole {
 }
 
 // After an entry: none is current, or it still is.
-#[derive(Drop)]
+#[derive(Clone, Copy)]
 pub enum Next {
     Seek(u64),
     Pass(u64),
@@ -40,6 +40,7 @@ pub(crate) fn header_cut(place: u64, lacks: u64) -> ChunkCut
 }
 
 // Chunks are passed until something else is met, and a 03 met there too. No sum is checked.
+#[tactic(auto, using(crate::proofs::Bounds::skipping))]
 pub(crate) fn skip_from(image: &[u8], from: u64) -> Skip
     ensures { skipped_as result ≡ skip image.now from }
 {
@@ -63,6 +64,7 @@ pub(crate) fn skip_from(image: &[u8], from: u64) -> Skip
 }
 
 // Each chunk is tested before the next: header, data, sum.
+#[tactic(auto, using(crate::proofs::Count::reading))]
 pub(crate) fn whole_from(image: &[u8], from: u64) -> Whole
     ensures { whole_as result ≡ whole image.now from }
 {
@@ -104,6 +106,7 @@ pub(crate) fn whole_from(image: &[u8], from: u64) -> Whole
 }
 
 // What is current after a cut.
+#[tactic(auto, unfolding(crate::specs::Reading::after_cut))]
 fn after_cut(part: CutPart, place: u64) -> Next
     ensures { next_as result ≡ after_cut (part_as part) place }
 {
@@ -115,6 +118,7 @@ fn after_cut(part: CutPart, place: u64) -> Next
 }
 
 // What is current after an entry.
+#[tactic(auto, unfolding(crate::specs::Reading::left))]
 pub(crate) fn left_by(w: Whole) -> Next
     ensures { next_as result ≡ left (whole_as w) }
 {
