@@ -1,11 +1,8 @@
 -- The theorems used on concrete runs, and what they say there computed beside them, so that none holds for an empty reason: two runs of the code with
 -- other stagings, file lengths, old bytes, cuts, flushes and syncs; and the segment that one of them leaves.
-use Prim.Native.Nat.{ℕ}
-use native.Mathlib.Omega.{arith}
-use mathlib.Core.Path.{◌≡◌, refl}
-use mathlib.Core.List.{List, [], ◌∷◌, flat_map}
-use lib.ListN.{take, replicate}
-use lib.IntN.{pos}
+use Rattle.std.specs.Prelude.{ℕ, ◌≡◌, refl, List, [], ◌∷◌, take, replicate, pos}
+use Rattle.std.proofs.Common.{arith}
+use mathlib.Core.List.{flat_map}
 use Rattle.lists.specs.Lay.{lay}
 use Rattle.lists.specs.Walk.{walk, around}
 use Rattle.lists.specs.Answers.{Answer, accepted, refused}
@@ -33,10 +30,10 @@ use Rattle.journal.specs.Step.{call_of, replied_as}
 use Rattle.journal.specs.Stories.{calls, canon_from, canon, story, answers_of}
 use Rattle.journal.specs.Demand3.{Given, ours}
 use Rattle.journal.specs.CodeRuns.{Opening, OpensFresh, opened_as, Stepping, Run, hears, OneStory}
-use Rattle.journal.specs.TwoRuns.{two-runs-of-the-code}
+use Rattle.journal.proofs.TwoRuns.{two-runs-of-the-code}
 use Rattle.journal.specs.Committed.{history_after, writer_after, AtRest, HoldsSegment, GivesBack}
-use Rattle.journal.specs.BackFromBytes.{back-from-bytes}
-use Rattle.journal.specs.CommittedLaws.{committed-segment}
+use Rattle.journal.proofs.BackFromBytes.{back-from-bytes}
+use Rattle.journal.proofs.CommittedLaws.{committed-segment}
 
 -- ---- runs of the code, from a list of calls with the replies that they get
 

@@ -1,4 +1,6 @@
 // One call of a writer, by name: what a program that keeps a list of calls makes of them. The theorems of this crate speak of what `step` promises.
+#![tactic(auto)]
+
 ghost use Rattle.log_file.specs.Promises.{answered_as, written_as, finished_as, committed_as};
 ghost use Rattle.buffered.specs.Seek.{landed_as};
 ghost use Rattle.journal.specs.Step.{Conveys, StepAllows};
@@ -8,7 +10,7 @@ use log_file::entries::{CommitAnswer, Committed, FinishAnswer, Finished, WriteAn
 use log_file::{Answer, Answered, LogFileWriter};
 
 // A piece's bytes are lent beside the call.
-#[derive(Drop)]
+#[derive(Clone, Copy)]
 pub enum Call {
     BeginEntry(u64),
     BeginChunk(u32),
@@ -24,7 +26,7 @@ pub enum Call {
 
 // The values that an accepted call reports, as many as it has: a count or a place; an entry's id and the position behind it; a chunk's file id, offset,
 // CRC and length. Or the number of the refusal.
-#[derive(Drop)]
+#[derive(Clone, Copy)]
 pub enum Reply {
     Accepted,
     One(u64),
@@ -33,7 +35,7 @@ pub enum Reply {
     Refused(u8),
 }
 
-#[derive(Drop)]
+#[derive(Clone, Copy)]
 pub struct Stepped {
     pub writer: LogFileWriter,
     pub answer: Reply,

@@ -16,13 +16,13 @@ use Rattle.log_file.specs.HistoryLaws.{idle-nothing}
 use Rattle.log_file.specs.HistoryRanges.{Argued, AllRanged, fresh-ranged, next-ranged}
 use Rattle.lists.specs.All.{All}
 use Rattle.log_file.specs.Shows.{Shows}
-use Rattle.log_file.specs.ShowsLaws.{still-shows, flushed-image}
+use Rattle.log_file.proofs.ShowsLaws.{still-shows, flushed-image}
 use Rattle.journal.specs.Step.{call_of}
 use Rattle.journal.specs.Stories.{calls, Seen}
 use Rattle.journal.specs.Demand3.{Given}
-use Rattle.journal.specs.StoriesLaws.{shown-seen}
+use Rattle.journal.proofs.StoriesLaws.{shown-seen}
 use Rattle.journal.specs.CodeRuns.{Opening, OpensFresh, opened_as, Stepping, left_as, Run, hears}
-use Rattle.journal.specs.TwoRuns.{opened-shows}
+use Rattle.journal.proofs.TwoRuns.{opened-shows}
 use Rattle.journal.specs.Committed.{history_after, writer_after, Typed, AtRest, HoldsSegment}
 
 -- ---- the version info of a history never changes

@@ -18,9 +18,9 @@ use Rattle.log_file.specs.Shows.{Shows}
 use Rattle.journal.specs.Stories.{Heard, calls, canon, Part, left_out, piece, matching, part, Seen, seen, Story, ends, tells, story_at, story}
 use Rattle.journal.specs.Demand3.{Given, InRange}
 use Rattle.journal.specs.CodeRuns.{Opening, OpensFresh, opened_as, Stepping, left_as, Run, hears_one, hears}
-use Rattle.journal.specs.TwoRuns.{opened-shows, openings-of-the-code, two-runs-of-the-code}
+use Rattle.journal.proofs.TwoRuns.{opened-shows, openings-of-the-code, two-runs-of-the-code}
 use Rattle.journal.specs.Committed.{writer_after}
-use Rattle.journal.specs.CommittedLaws.{after-shows}
+use Rattle.journal.proofs.CommittedLaws.{after-shows}
 
 -- ---- what is seen at a story's end is what is seen of the writer after the run
 

@@ -11,7 +11,7 @@ use Rattle.log_file.specs.Opening.{Terms, opened_machine}
 use Rattle.log_file.specs.OpeningLaws.{opened-machine, opened-valid}
 use Rattle.journal.specs.Stories.{Heard, Part, left_out, piece, matching, part, Canon, done, then, canon_at, canon_from, Story, story, story_at, answers_of}
 use Rattle.journal.specs.Demand3.{Given, heard, story_of, ours, TwoRunHalf}
-use Rattle.journal.specs.TwoRuns.{two_runs}
+use Rattle.journal.proofs.TwoRuns.{two_runs}
 use Rattle.journal.specs.NumbersOnly.{SameNumbers, same-numbers-answer, same-numbers-writer}
 use Rattle.journal.specs.WrongPrograms.{fixed_answer, stores_nothing}
 
@@ -56,7 +56,7 @@ nothing-answers m m' [] e = refl
 nothing-answers m m' (c ∷ cs) e =
     let z = (called-kept m' c).buffers in
     nothing-call _ _ _ _ (part c) (same-numbers-answer m m' c e)
-    (nothing-answers _ (called m' c).machine' cs
+    (nothing-answers (stores_nothing.steps m c).machine' (called m' c).machine' cs
     (record { writer = same-numbers-writer m m' c e; image = e.image ∙ sym z.image; staging = e.staging ∙ sym z.staging }))
 
 opened-numbers : (o : Terms) (g : Given) → number_of (ours.opens o g).answer ≡ 0
