@@ -15,7 +15,7 @@ fn main() {
     let archive = repository.join(named);
     assert!(
         archive.is_file(),
-        "{} is not there: run `rt staticlib okaywal_segment`, set OKW_LIB, or use --features model",
+        "{} is not there: run tests/archive, set OKW_LIB, or use --features model",
         archive.display()
     );
     let folder = archive.parent().expect("a file has a folder");

@@ -1,4 +1,4 @@
-/* Writes an entry of one chunk and reads it back, up to the first refusal. From the project's root, after rt staticlib okaywal_segment:
+/* Writes an entry of one chunk and reads it back, up to the first refusal. From the project's root, after tests/archive:
  *   cc -Iinclude tests/link/example.c target/staticlib/libokaywal_segment.a -o target/example && target/example */
 #include <stdio.h>
 #include "okaywal_segment.h"

@@ -1,4 +1,4 @@
-//! Reads the segment of document 01's case P2 (one entry, an empty chunk) whole. From the project's root, after rt staticlib okaywal_segment:
+//! Reads the segment of document 01's case P2 (one entry, an empty chunk) whole. From the project's root, after tests/archive:
 //!   rustc --edition 2021 tests/link/example.rs -L target/staticlib -l static=okaywal_segment -o target/example && target/example
 //! compare/src/library.rs wraps every function of include/okaywal_segment.h.
 

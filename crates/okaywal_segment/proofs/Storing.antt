@@ -1,9 +1,5 @@
 -- One turn of a loop that stores words from the first place on.
-use mathlib.Core.Path.{◌≡◌}
-use mathlib.Core.List.{List}
-use Prim.Native.Nat.{ℕ, ◌+◌, ◌<◌, ◌≤◌}
-use native.Mathlib.Nat.{zero-add}
-use lib.ListN.{length, get_or, drop, set}
+use Rattle.std.proofs.Common.{◌≡◌, ℕ, ◌+◌, ◌<◌, ◌≤◌, List, length, get_or, drop, set, zero-add}
 use Rattle.lists.specs.Lay.{lay}
 use Rattle.lists.proofs.Turns.{goes_on, ends}
 

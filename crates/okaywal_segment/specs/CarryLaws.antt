@@ -1,6 +1,6 @@
 -- From call to call: the words that an accepted call leaves are in their ranges, and the next call reads from them the very state that it left. So a row
 -- of calls across the boundary is the row of the calls themselves.
-use Rattle.std.specs.Prelude.{ℕ, zero, suc, ◌+◌, ◌-◌, ◌^◌, ◌≤◌, ◌<◌, ◌≡◌, refl, true, cond, List, [], ◌∷◌, ◌++◌, length, leb}
+use Rattle.std.specs.Prelude.{ℕ, zero, suc, ◌^◌, ◌≤◌, ◌<◌, ◌≡◌, refl, true, cond, List, [], ◌∷◌, ◌++◌, length, leb}
 use Rattle.std.proofs.Common.{arith, ap, leb-true, le-leb}
 use Rattle.std.proofs.Math.Path.{sym}
 use Rattle.std.proofs.Math.ListN.{take}

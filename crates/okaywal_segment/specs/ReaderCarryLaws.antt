@@ -1,6 +1,6 @@
 -- From call to call: the words that a reader's call leaves are in their ranges, and the next call reads from them the very state that it left. For every
 -- reader that an opening led to (`Led`), over an image of bytes.
-use Rattle.std.specs.Prelude.{ℕ, ◌+◌, ◌-◌, ◌≤◌, ◌≡◌, refl, false, List, [], ◌∷◌, ◌++◌, length, leb}
+use Rattle.std.specs.Prelude.{ℕ, ◌≤◌, ◌≡◌, refl, false, List, [], ◌∷◌, ◌++◌, length, leb}
 use Rattle.std.proofs.Common.{arith, ap, sym, ◌∙◌, leb-true, le-leb}
 use Rattle.std.proofs.Math.Bool.{true}
 use Rattle.lists.specs.Lay.{lay}
@@ -8,7 +8,7 @@ use Rattle.lists.specs.LayLaws.{lay-fits}
 use Rattle.lists.specs.Answers.{number_of}
 use Rattle.lists.specs.AnswersLaws.{every, all_hold}
 use Rattle.lists.specs.ChoiceLaws.{either}
-use Rattle.little_endian.specs.LittleEndianLaws.{Bytes}
+use Rattle.little_endian.specs.LittleEndian.{Bytes}
 use Rattle.segment_reader.specs.declared.Moment.{Moment}
 use Rattle.segment_reader.specs.declared.Moment.TheVariants.{Between, InEntry, InChunk, Ended}
 use Rattle.segment_reader.specs.declared.SegmentReader.{SegmentReader}

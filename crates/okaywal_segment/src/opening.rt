@@ -31,8 +31,8 @@ fn zeros(state: &mut [u64], info: &mut [u8])
 
 // Opens a segment. Refused with 12 where state or info is too short, and nothing is stored; with 12 for a number out of its range, 4 for a version info
 // over 255 bytes, 5 where padding or header has no room: state and info are then zeros, and the buffers stay.
-#[unsafe(no_mangle)]
-pub extern "C" fn okw_writer_open(
+#[tactic(auto, unfolding(crate::specs::OpeningCrossing::started, crate::specs::OpeningCrossing::opening_of, crate::specs::WriterWords::writer_words))]
+pub fn okw_writer_open(
     state: &mut [u64],
     info: &mut [u8],
     image: &mut [u8],

@@ -15,7 +15,7 @@ use segment_reader::SegmentReader;
 
 // ---- any call that answers and may move the reader: words to a state, the call, a state to words
 
-#[derive(Drop)]
+#[derive(Clone, Copy)]
 enum ReaderCall {
     Entry,
     Chunk,
@@ -24,12 +24,13 @@ enum ReaderCall {
 }
 
 // The reader after the call, and the answer in words.
-#[derive(Drop)]
+#[derive(Clone, Copy)]
 struct Made {
     reader: SegmentReader,
     reply: Reply,
 }
 
+#[tactic(auto, unfolding(segment_reader::specs::Calls::read_by))]
 fn make(r: SegmentReader, image: &[u8], call: ReaderCall) -> Made
     ensures { result ≡ worded (read_by (call_of call) r image.now) }
 {
@@ -73,6 +74,7 @@ fn make(r: SegmentReader, image: &[u8], call: ReaderCall) -> Made
     }
 }
 
+#[tactic(auto, unfolding(crate::specs::ReaderCrossing::crossed))]
 fn read(state: &mut [u64], image: &[u8], call: ReaderCall, answer: &mut [u64]) -> u64
     ensures { ReaderAllows (call_of call) state.old image.now answer.old result state.new answer.new }
 {
@@ -90,8 +92,8 @@ fn read(state: &mut [u64], image: &[u8], call: ReaderCall, answer: &mut [u64]) -
 
 // Opens a reader over the image. Refused with 12 where the state is too short, and nothing is stored; with 12, 1, 2, 3, 1, in this order: the state is
 // then zeros, and ended.
-#[unsafe(no_mangle)]
-pub extern "C" fn okw_reader_open(state: &mut [u64], image: &[u8], file_id: u64) -> u64
+#[tactic(auto, unfolding(crate::specs::ReaderCrossing::opened_reader))]
+pub fn okw_reader_open(state: &mut [u64], image: &[u8], file_id: u64) -> u64
     ensures { OpenAllows state.old image.now file_id result state.new }
 {
     if !enough(state.len(), 0, 0) {
@@ -105,37 +107,29 @@ pub extern "C" fn okw_reader_open(state: &mut [u64], image: &[u8], file_id: u64)
 }
 
 // The next entry: 1 and its id; or 0, ended. Refused with 12, 9 where a chunk's header is cut on the way.
-#[unsafe(no_mangle)]
-pub extern "C" fn okw_reader_entry(state: &mut [u64], image: &[u8], answer: &mut [u64]) -> u64
+pub fn okw_reader_entry(state: &mut [u64], image: &[u8], answer: &mut [u64]) -> u64
     ensures { EntryAllows state.old image.now answer.old result state.new answer.new }
 {
     read(state, image, ReaderCall::Entry, answer)
 }
 
 // The next chunk: 1, offset of the 02, length; 2 end of entry; 3 aborted. Refused with 12, 6, 9 where the chunk's header is cut.
-#[unsafe(no_mangle)]
-pub extern "C" fn okw_reader_chunk(state: &mut [u64], image: &[u8], answer: &mut [u64]) -> u64
+pub fn okw_reader_chunk(state: &mut [u64], image: &[u8], answer: &mut [u64]) -> u64
     ensures { ChunkAllows state.old image.now answer.old result state.new answer.new }
 {
     read(state, image, ReaderCall::Chunk, answer)
 }
 
 // The open chunk's next bytes, min(asked, owed, present) of them: the place that they begin at, and their number. Refused with 12, 6.
-#[unsafe(no_mangle)]
-pub extern "C" fn okw_reader_data(
-    state: &mut [u64],
-    image: &[u8],
-    asked: u64,
-    answer: &mut [u64],
-) -> u64
+pub fn okw_reader_data(state: &mut [u64], image: &[u8], asked: u64, answer: &mut [u64]) -> u64
     ensures { DataAllows state.old image.now asked answer.old result state.new answer.new }
 {
     read(state, image, ReaderCall::Data(asked), answer)
 }
 
 // Whether the open chunk's CRC is right: 1 or 0. Refused with 12, 6, also while bytes are owed, 9 where the CRC is cut. No state word is written.
-#[unsafe(no_mangle)]
-pub extern "C" fn okw_reader_check_crc(state: &[u64], image: &[u8], answer: &mut [u64]) -> u64
+#[tactic(auto, unfolding(crate::specs::ReaderCrossing::crossed, segment_reader::specs::Calls::read_by))]
+pub fn okw_reader_check_crc(state: &[u64], image: &[u8], answer: &mut [u64]) -> u64
     ensures { CheckCrcAllows state.now image.now answer.old result answer.new }
 {
     if !ready_to_answer(state, answer) {
@@ -147,8 +141,8 @@ pub extern "C" fn okw_reader_check_crc(state: &[u64], image: &[u8], answer: &mut
 }
 
 // Leaves the open chunk. Refused with 12, 6 where there is none.
-#[unsafe(no_mangle)]
-pub extern "C" fn okw_reader_skip(state: &mut [u64], image: &[u8]) -> u64
+#[tactic(auto, unfolding(crate::specs::ReaderCrossing::crossed, segment_reader::specs::Calls::read_by), using(crate::proofs::Starting::lay_none))]
+pub fn okw_reader_skip(state: &mut [u64], image: &[u8]) -> u64
     ensures { SkipAllows state.old image.now result state.new }
 {
     if !ready(state) {
@@ -162,8 +156,7 @@ pub extern "C" fn okw_reader_skip(state: &mut [u64], image: &[u8]) -> u64
 }
 
 // The rest of the current entry: 1, the place that it began at, chunks; or 2, aborted. Refused with 12, 6, 9 for any cut, 10 where a CRC differs.
-#[unsafe(no_mangle)]
-pub extern "C" fn okw_reader_whole(state: &mut [u64], image: &[u8], answer: &mut [u64]) -> u64
+pub fn okw_reader_whole(state: &mut [u64], image: &[u8], answer: &mut [u64]) -> u64
     ensures { WholeAllows state.old image.now answer.old result state.new answer.new }
 {
     read(state, image, ReaderCall::Whole, answer)

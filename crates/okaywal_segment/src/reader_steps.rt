@@ -18,6 +18,7 @@ pub(crate) fn enough(state: usize, answer: usize, wanted: usize) -> bool
 }
 
 // Whether a call without an answer is made: the state is not too short, and every word is in its range.
+#[tactic(auto, using(crate::proofs::Starting::lay_none))]
 pub(crate) fn ready(state: &[u64]) -> bool
     ensures { Starts (enough_to_read 0 state.now []) (reader_fits state.now) [] result [] }
 {

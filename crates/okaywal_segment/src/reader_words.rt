@@ -27,6 +27,7 @@ fn part_fits(kind: u64, n: u64, owed: u64) -> bool
 }
 
 // Whether the words are in their ranges.
+#[tactic(auto, unfolding(crate::specs::ReaderWords::reader_fits))]
 pub(crate) fn fits(state: &[u64]) -> bool
     requires { 10 ≤ length state.now }
     ensures { result ≡ reader_fits state.now }
@@ -56,6 +57,7 @@ fn moment_from(kind: u64, id: u64, mark: u64, n: u64, owed: u64) -> Moment
 }
 
 // The state that the words tell. Those that the moment does not use are not looked at.
+#[tactic(auto, unfolding(crate::specs::ReaderWords::reader_from, crate::specs::ReaderWords::reader_fits))]
 pub(crate) fn load(state: &[u64]) -> SegmentReader
     requires { Reads state.now }
     ensures { result ≡ reader_from state.now }
@@ -84,6 +86,7 @@ fn moment_words(m: Moment) -> [u64; 5]
 }
 
 // The words of a state, 0 where the moment does not use them.
+#[tactic(auto, unfolding(crate::specs::ReaderWords::reader_words))]
 fn words_of(r: SegmentReader) -> [u64; 10]
     ensures { result ≡ reader_words r }
 {
@@ -115,6 +118,7 @@ pub(crate) fn save(state: &mut [u64], r: SegmentReader)
 // ---- answers
 
 // The number of an answer that reports nothing.
+#[tactic(auto, unfolding(segment_reader::specs::Calls::answer_of))]
 pub(crate) fn number_of_opening(answer: OpenAnswer) -> u64
     ensures { result ≡ number_of (answer_of (open_as answer)) }
 {
@@ -124,6 +128,7 @@ pub(crate) fn number_of_opening(answer: OpenAnswer) -> u64
     }
 }
 
+#[tactic(auto, unfolding(segment_reader::specs::Calls::answer_of))]
 pub(crate) fn number_of_skip(answer: SkipAnswer) -> u64
     ensures { result ≡ number_of (answer_of (skip_as answer)) }
 {
@@ -134,6 +139,7 @@ pub(crate) fn number_of_skip(answer: SkipAnswer) -> u64
 }
 
 // Any cut is 9.
+#[tactic(auto, unfolding(segment_reader::specs::Calls::answer_of, segment_reader::specs::Calls::cut_number))]
 fn of_cut(cut: ChunkCut) -> Reply
     ensures { result ≡ in_words (answer_of (cut_short (cut_as cut))) }
 {
@@ -141,6 +147,7 @@ fn of_cut(cut: ChunkCut) -> Reply
 }
 
 // 1 and the id; or 0, ended.
+#[tactic(auto, unfolding(segment_reader::specs::Calls::answer_of))]
 pub(crate) fn of_entry(answer: EntryAnswer) -> Reply
     ensures { result ≡ in_words (answer_of (entry_as answer)) }
 {
@@ -159,6 +166,7 @@ pub(crate) fn of_entry(answer: EntryAnswer) -> Reply
 }
 
 // 1, offset of the 02, length; 2 end of entry; 3 aborted.
+#[tactic(auto, unfolding(segment_reader::specs::Calls::answer_of))]
 pub(crate) fn of_chunk(answer: ReadChunkResult) -> Reply
     ensures { result ≡ in_words (answer_of (chunk_as answer)) }
 {
@@ -181,6 +189,7 @@ pub(crate) fn of_chunk(answer: ReadChunkResult) -> Reply
 }
 
 // The place that the part begins at, its length.
+#[tactic(auto, unfolding(segment_reader::specs::Calls::answer_of))]
 pub(crate) fn of_data(answer: ReadAnswer) -> Reply
     ensures { result ≡ in_words (answer_of (read_as answer)) }
 {
@@ -194,6 +203,7 @@ pub(crate) fn of_data(answer: ReadAnswer) -> Reply
 }
 
 // 1 right, 0 wrong.
+#[tactic(auto, unfolding(segment_reader::specs::Calls::answer_of))]
 pub(crate) fn of_crc(answer: CrcAnswer) -> Reply
     ensures { result ≡ in_words (answer_of (crc_as answer)) }
 {
@@ -212,6 +222,7 @@ pub(crate) fn of_crc(answer: CrcAnswer) -> Reply
 }
 
 // 1, the place that it began at, chunks; or 2, aborted.
+#[tactic(auto, unfolding(segment_reader::specs::Calls::answer_of))]
 pub(crate) fn of_whole(answer: WholeAnswer) -> Reply
     ensures { result ≡ in_words (answer_of (whole_reply_as answer)) }
 {

@@ -16,6 +16,7 @@ pub(crate) fn enough(state: usize, info: usize, answer: usize, wanted: usize) ->
 }
 
 // Whether a call without an answer is made: no slice is too short, and every word is in its range.
+#[tactic(auto, using(crate::proofs::Starting::lay_none))]
 pub(crate) fn ready(state: &[u64], info: &[u8]) -> bool
     ensures { Starts (enough_lent 0 state.now info.now []) (writer_fits state.now) [] result [] }
 {

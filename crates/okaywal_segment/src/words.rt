@@ -13,7 +13,7 @@ use log_file::Answer;
 use log_file::entries::{CommitAnswer, FinishAnswer, WriteAnswer};
 
 // 0 or the number of a refusal, and the words of the answer.
-#[derive(Drop)]
+#[derive(Clone, Copy)]
 pub(crate) struct Reply {
     pub(crate) number: u64,
     pub(crate) words: [u64; 4],

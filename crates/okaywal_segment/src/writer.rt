@@ -11,8 +11,8 @@ use crate::writer_words::load;
 use buffered::seek::SeekFrom;
 
 // Begins an entry. Refused with 12, 6 unless idle, 7 where the id is below the segment's, 5 where there is no room.
-#[unsafe(no_mangle)]
-pub extern "C" fn okw_writer_begin(
+#[tactic(auto, unfolding(crate::specs::Crossing::crossed), using(crate::proofs::Starting::lay_none))]
+pub fn okw_writer_begin(
     state: &mut [u64],
     info: &[u8],
     image: &mut [u8],
@@ -32,8 +32,8 @@ pub extern "C" fn okw_writer_begin(
 }
 
 // Begins a chunk of length bytes. Refused with 12, 6 unless in an entry with no chunk open, 5 where there is no room.
-#[unsafe(no_mangle)]
-pub extern "C" fn okw_writer_begin_chunk(
+#[tactic(auto, unfolding(crate::specs::Crossing::crossed), using(crate::proofs::Starting::lay_none))]
+pub fn okw_writer_begin_chunk(
     state: &mut [u64],
     info: &[u8],
     image: &mut [u8],
@@ -53,8 +53,8 @@ pub extern "C" fn okw_writer_begin_chunk(
 }
 
 // Takes the first min(offered, owed) bytes, and answers their number. Refused with 12, 6 unless in a chunk.
-#[unsafe(no_mangle)]
-pub extern "C" fn okw_writer_write(
+#[tactic(auto, unfolding(crate::specs::Crossing::crossed))]
+pub fn okw_writer_write(
     state: &mut [u64],
     info: &[u8],
     image: &mut [u8],
@@ -75,8 +75,8 @@ pub extern "C" fn okw_writer_write(
 }
 
 // Finishes the open chunk: file id, offset of the 02, CRC, length. Refused with 12, 6 unless in a chunk, 8 with bytes owed.
-#[unsafe(no_mangle)]
-pub extern "C" fn okw_writer_finish(
+#[tactic(auto, unfolding(crate::specs::Crossing::crossed))]
+pub fn okw_writer_finish(
     state: &mut [u64],
     info: &[u8],
     image: &mut [u8],
@@ -96,8 +96,8 @@ pub extern "C" fn okw_writer_finish(
 }
 
 // Commits the entry: its id, and the logical position behind it. Refused with 12, 6 unless in an entry with no chunk open.
-#[unsafe(no_mangle)]
-pub extern "C" fn okw_writer_commit(
+#[tactic(auto, unfolding(crate::specs::Crossing::crossed))]
+pub fn okw_writer_commit(
     state: &mut [u64],
     info: &[u8],
     image: &mut [u8],
@@ -117,8 +117,8 @@ pub extern "C" fn okw_writer_commit(
 }
 
 // Goes back to the entry's start, also from inside a chunk. Refused with 12, 6 when idle.
-#[unsafe(no_mangle)]
-pub extern "C" fn okw_writer_rollback(
+#[tactic(auto, unfolding(crate::specs::Crossing::crossed), using(crate::proofs::Starting::lay_none))]
+pub fn okw_writer_rollback(
     state: &mut [u64],
     info: &[u8],
     image: &mut [u8],
@@ -137,8 +137,8 @@ pub extern "C" fn okw_writer_rollback(
 }
 
 // Begins the segment anew under another id. Refused with 12, 6 unless idle.
-#[unsafe(no_mangle)]
-pub extern "C" fn okw_writer_recycle(
+#[tactic(auto, unfolding(crate::specs::Crossing::crossed), using(crate::proofs::Starting::lay_none))]
+pub fn okw_writer_recycle(
     state: &mut [u64],
     info: &[u8],
     image: &mut [u8],
@@ -158,13 +158,8 @@ pub extern "C" fn okw_writer_recycle(
 }
 
 // Staged bytes go to the image. Refused with 12.
-#[unsafe(no_mangle)]
-pub extern "C" fn okw_writer_flush(
-    state: &mut [u64],
-    info: &[u8],
-    image: &mut [u8],
-    staging: &mut [u8],
-) -> u64
+#[tactic(auto, unfolding(crate::specs::Crossing::crossed), using(crate::proofs::Starting::lay_none))]
+pub fn okw_writer_flush(state: &mut [u64], info: &[u8], image: &mut [u8], staging: &mut [u8]) -> u64
     ensures { FlushAllows state.old info.now image.old staging.old result state.new image.new staging.new }
 {
     if !ready(state, info) {
@@ -178,8 +173,8 @@ pub extern "C" fn okw_writer_flush(
 }
 
 // Notes that everything below target is on the device, after a flush where that is wanted. Refused with 12.
-#[unsafe(no_mangle)]
-pub extern "C" fn okw_writer_sync(
+#[tactic(auto, unfolding(crate::specs::Crossing::crossed), using(crate::proofs::Starting::lay_none))]
+pub fn okw_writer_sync(
     state: &mut [u64],
     info: &[u8],
     image: &mut [u8],
@@ -200,6 +195,7 @@ pub extern "C" fn okw_writer_sync(
 
 // ---- landing places: nothing moves, and no state word is written
 
+#[tactic(auto, unfolding(crate::specs::Crossing::crossed))]
 fn land(
     state: &[u64],
     info: &[u8],
@@ -219,8 +215,7 @@ fn land(
 }
 
 // Where a seek to place lands. Refused with 12, 11 past the image size.
-#[unsafe(no_mangle)]
-pub extern "C" fn okw_writer_land_start(
+pub fn okw_writer_land_start(
     state: &[u64],
     info: &[u8],
     image: &[u8],
@@ -234,8 +229,7 @@ pub extern "C" fn okw_writer_land_start(
 }
 
 // Where a seek by offset from the file length lands. Refused with 12, 11 below 0 or past the image size.
-#[unsafe(no_mangle)]
-pub extern "C" fn okw_writer_land_end(
+pub fn okw_writer_land_end(
     state: &[u64],
     info: &[u8],
     image: &[u8],
@@ -249,8 +243,7 @@ pub extern "C" fn okw_writer_land_end(
 }
 
 // Where a seek by offset from the logical position lands. Refused with 12, 11 below 0 or past the image size.
-#[unsafe(no_mangle)]
-pub extern "C" fn okw_writer_land_current(
+pub fn okw_writer_land_current(
     state: &[u64],
     info: &[u8],
     image: &[u8],

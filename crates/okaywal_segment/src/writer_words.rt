@@ -20,6 +20,7 @@ fn chunk_fits(kind: u64, n: u64, owed: u64, crc: u64) -> bool
 }
 
 // Whether the words are in their ranges.
+#[tactic(auto, unfolding(crate::specs::WriterWords::writer_fits))]
 pub(crate) fn fits(state: &[u64]) -> bool
     requires { 16 ≤ length state.now }
     ensures { result ≡ writer_fits state.now }
@@ -55,6 +56,7 @@ fn moment_from(kind: u64, id: u64, start: usize, n: u64, owed: u64, crc: u64) ->
     }
 }
 
+#[tactic(auto, using(crate::proofs::Ranges::held))]
 fn info_from(info: &[u8]) -> [u8; 255]
     requires { 255 ≤ length info.now }
     ensures { result ≡ take 255 info.now }
@@ -65,6 +67,7 @@ fn info_from(info: &[u8]) -> [u8; 255]
 }
 
 // The state that the words tell. Those that the moment does not use are not looked at.
+#[tactic(auto, unfolding(crate::specs::WriterWords::writer_from, crate::specs::WriterWords::writer_fits))]
 pub(crate) fn load(state: &[u64], info: &[u8]) -> LogFileWriter
     requires { Loads state.now info.now }
     ensures { result ≡ writer_from state.now info.now }
@@ -96,7 +99,7 @@ pub(crate) fn load(state: &[u64], info: &[u8]) -> LogFileWriter
 // ---- a state to words
 
 // The last id and whether it is known.
-#[derive(Drop)]
+#[derive(Clone, Copy)]
 struct Last {
     known: u64,
     id: u64,
@@ -128,6 +131,7 @@ fn moment_words(m: Moment) -> [u64; 6]
 }
 
 // The words of a state, 0 where the moment does not use them.
+#[tactic(auto, unfolding(crate::specs::WriterWords::writer_words))]
 fn words_of(w: LogFileWriter) -> [u64; 16]
     ensures { result ≡ writer_words w }
 {
