@@ -1,7 +1,7 @@
 #!/usr/bin/env bash
 # Runs okw against the kept transcripts tests/okw/*.txt. The commands of a transcript are its lines that begin with `$ `; they are run one after the other
 # in a new folder that holds the sample segments of crates/okw/data, and what they write must be what stands below each. Last line: `okw: N transcripts, ok`.
-# Usage: tests/okw.sh [--write] [OKW], from anywhere: with --write the transcripts are written anew; OKW is target/bin/okw by default.
+# Usage: tests/okw.sh [--write] [OKW], from anywhere: with --write the transcripts are written anew; OKW is crates/okw/out/okw by default.
 set -euo pipefail
 cd "$(dirname "$0")/.."
 write=no
@@ -9,9 +9,9 @@ if [[ ${1:-} == --write ]]; then
     write=yes
     shift
 fi
-program=${1:-target/bin/okw}
+program=${1:-crates/okw/out/okw}
 if [[ ! -x $program ]]; then
-    echo "okw: $program is not built; rt check okw builds it"
+    echo "okw: $program is not built; rt run in crates/okw builds it"
     exit 1
 fi
 program=$(realpath "$program")

@@ -1,9 +1,9 @@
 #!/usr/bin/env bash
 # Makes the sample segments of crates/okw/data anew, with okw itself: a good one, and from it one that is cut inside the last entry, one with a wrong byte,
-# and one that ends in a stray mark. Usage: tests/samples.sh [OKW], from anywhere; OKW is target/bin/okw by default.
+# and one that ends in a stray mark. Usage: tests/samples.sh [OKW], from anywhere; OKW is crates/okw/out/okw by default.
 set -euo pipefail
 cd "$(dirname "$0")/.."
-okw=$(realpath "${1:-target/bin/okw}")
+okw=$(realpath "${1:-crates/okw/out/okw}")
 cd crates/okw/data
 rm -f -- *.okw
 

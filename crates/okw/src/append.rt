@@ -1,11 +1,15 @@
 // `okw new` and `okw append`: the segment is made or added to in memory, and goes to its file whole.
 use crate::entries::Choice;
-use crate::files::{Beside, Loaded};
+use crate::files::{Beside, Loaded, NewFile};
 use crate::outcome::{Outcome, Reason};
 use crate::{arguments, entries, files, outcome, written};
 use log_file::{LastId, opening};
 use segment_reader::survey::SegmentRead;
 use segment_reader::{SegmentReader, survey};
+use std::fs::File;
+use std::io;
+use std::io::Write;
+use std::rt::{Env, Files};
 use text::Number;
 
 // ---- new
@@ -18,7 +22,7 @@ fn make(id: u64, image: &mut [u8]) -> Reason {
     written::reason_by(answer)
 }
 
-fn new_file(image: &mut [u8], id: u64, size: u64) -> Outcome {
+fn new_file(rt: &(impl Env + Files<File = File>), image: &mut [u8], id: u64, size: u64) -> Outcome {
     if size > image.len() as u64 {
         return outcome::of(Reason::TooLarge, 4);
     }
@@ -27,15 +31,15 @@ fn new_file(image: &mut [u8], id: u64, size: u64) -> Outcome {
     if !outcome::is_fine(reason) {
         return outcome::of(reason, 4);
     }
-    outcome::of(files::create(2, text::first(image, n)), 2)
+    outcome::of(files::create(rt, 2, text::first(image, n)), 2)
 }
 
-pub(crate) fn new(image: &mut [u8]) -> Outcome {
-    match arguments::number(3) {
+pub(crate) fn new(rt: &(impl Env + Files<File = File>), image: &mut [u8]) -> Outcome {
+    match arguments::number(rt, 3) {
         Number::Not => outcome::of(Reason::NotNumber, 3),
-        Number::Of(id) => match arguments::number(4) {
+        Number::Of(id) => match arguments::number(rt, 4) {
             Number::Not => outcome::of(Reason::NotNumber, 4),
-            Number::Of(size) => new_file(image, id, size),
+            Number::Of(size) => new_file(rt, image, id, size),
         },
     }
 }
@@ -43,7 +47,7 @@ pub(crate) fn new(image: &mut [u8]) -> Outcome {
 // ---- append
 
 // The segment's version info.
-#[derive(Drop)]
+#[derive(Clone, Copy)]
 pub struct Info {
     bytes: [u8; 255],
     length: usize,
@@ -62,7 +66,7 @@ fn info_of(image: &[u8], id: u64) -> Info {
 }
 
 // One entry more behind the valid bytes, in a file that keeps its size.
-fn append_at(image: &mut [u8], id: u64, valid_until: u64, entry: u64) -> Reason {
+fn append_at(rt: &impl Env, image: &mut [u8], id: u64, valid_until: u64, entry: u64) -> Reason {
     let mut staging = [0u8; 4096];
     let info = info_of(image, id);
     let bytes = info.bytes;
@@ -83,74 +87,103 @@ fn append_at(image: &mut [u8], id: u64, valid_until: u64, entry: u64) -> Reason 
     if !outcome::is_fine(reason) {
         return reason;
     }
-    written::put_entry(writer, image, &mut staging, entry)
+    written::put_entry(rt, writer, image, &mut staging, entry)
 }
 
 // The reading ends past the file: the last entry that it met is cut, or a chunk behind it.
-fn cut_entry(image: &[u8], id: u64, valid_until: u64) -> Reason {
+fn cut_entry(out: &mut impl Write, image: &[u8], id: u64, valid_until: u64) -> io::Result<Reason> {
     let opening = SegmentReader::new(image, id);
     let reader = opening.reader;
-    let reading = entries::read(reader, image, Choice::Nothing);
+    let reading = entries::read(out, reader, image, Choice::Nothing)?;
     if reading.complete {
-        return Reason::CutBehind {
+        return Ok(Reason::CutBehind {
             offset: reading.last,
             valid_until,
-        };
+        });
     }
-    Reason::CutEntry {
+    Ok(Reason::CutEntry {
         offset: reading.last,
         valid_until,
-    }
+    })
 }
 
 // The file is read as at power-up, to the end of its valid bytes.
-fn append_to(image: &mut [u8], id: u64, entry: u64) -> Reason {
+fn append_to(
+    rt: &impl Env,
+    out: &mut impl Write,
+    image: &mut [u8],
+    id: u64,
+    entry: u64,
+) -> io::Result<Reason> {
     let mut unrecorded = [0u64; 4];
     match survey::read_segment(image, id, &mut unrecorded) {
-        SegmentRead::Refused(no) => Reason::Refused(no),
+        SegmentRead::Refused(no) => Ok(Reason::Refused(no)),
         SegmentRead::Read {
             met: _,
             complete: _,
             valid_until,
         } => {
             if valid_until > image.len() as u64 {
-                return cut_entry(image, id, valid_until);
+                return cut_entry(out, image, id, valid_until);
             }
-            append_at(image, id, valid_until, entry)
+            Ok(append_at(rt, image, id, valid_until, entry))
         }
     }
 }
 
 // The file's bytes with the entry in them, in memory.
-fn append_in_memory(image: &mut [u8], id: u64, entry: u64) -> Loaded {
-    match files::load(2, image, true) {
-        Loaded::Failed(reason) => Loaded::Failed(reason),
+fn append_in_memory(
+    rt: &(impl Env + Files<File = File>),
+    out: &mut impl Write,
+    image: &mut [u8],
+    id: u64,
+    entry: u64,
+) -> io::Result<Loaded> {
+    match files::load(rt, 2, image, true) {
+        Loaded::Failed(reason) => Ok(Loaded::Failed(reason)),
         Loaded::Bytes(size) => {
             let n = lists::smaller(size, image.len());
-            let reason = append_to(&mut image[..n], id, entry);
+            let reason = append_to(rt, out, &mut image[..n], id, entry)?;
             if !outcome::is_fine(reason) {
-                return Loaded::Failed(reason);
+                return Ok(Loaded::Failed(reason));
             }
-            Loaded::Bytes(n)
+            Ok(Loaded::Bytes(n))
         }
     }
 }
 
 // The new file is there, so the file stays as it is read now.
-fn append_alone(fd: i32, image: &mut [u8], id: u64, entry: u64) -> Reason {
-    match append_in_memory(image, id, entry) {
-        Loaded::Failed(reason) => files::remove_beside(2, fd, reason),
-        Loaded::Bytes(n) => files::replace(2, fd, text::first(image, n)),
+fn append_alone(
+    rt: &(impl Env + Files<File = File>),
+    out: &mut impl Write,
+    new: NewFile,
+    image: &mut [u8],
+    id: u64,
+    entry: u64,
+) -> io::Result<Reason> {
+    match append_in_memory(rt, out, image, id, entry) {
+        Ok(Loaded::Failed(reason)) => Ok(files::remove_beside(rt, 2, new, reason)),
+        Ok(Loaded::Bytes(n)) => Ok(files::replace(rt, 2, new, text::first(image, n))),
+        Err(error) => {
+            files::remove_beside(rt, 2, new, Reason::System(error.kind()));
+            Err(error)
+        }
     }
 }
 
 // What is refused is refused before anything is made; what is not is done once more with the new file there.
-fn append_file(image: &mut [u8], id: u64, entry: u64) -> Reason {
-    match append_in_memory(image, id, entry) {
-        Loaded::Failed(reason) => reason,
-        Loaded::Bytes(_) => match files::make_beside(2) {
-            Beside::Failed(reason) => reason,
-            Beside::Made(fd) => append_alone(fd, image, id, entry),
+fn append_file(
+    rt: &(impl Env + Files<File = File>),
+    out: &mut impl Write,
+    image: &mut [u8],
+    id: u64,
+    entry: u64,
+) -> io::Result<Reason> {
+    match append_in_memory(rt, out, image, id, entry)? {
+        Loaded::Failed(reason) => Ok(reason),
+        Loaded::Bytes(_) => match files::make_beside(rt, 2) {
+            Beside::Failed(reason) => Ok(reason),
+            Beside::Made(new) => append_alone(rt, out, new, image, id, entry),
         },
     }
 }
@@ -165,17 +198,27 @@ fn about(reason: Reason) -> usize {
     2
 }
 
-fn appended(image: &mut [u8], id: u64, entry: u64) -> Outcome {
-    let reason = append_file(image, id, entry);
-    outcome::of(reason, about(reason))
+fn appended(
+    rt: &(impl Env + Files<File = File>),
+    out: &mut impl Write,
+    image: &mut [u8],
+    id: u64,
+    entry: u64,
+) -> io::Result<Outcome> {
+    let reason = append_file(rt, out, image, id, entry)?;
+    Ok(outcome::of(reason, about(reason)))
 }
 
-pub(crate) fn append(image: &mut [u8]) -> Outcome {
-    match arguments::number(3) {
-        Number::Not => outcome::of(Reason::NotNumber, 3),
-        Number::Of(id) => match arguments::number(4) {
-            Number::Not => outcome::of(Reason::NotNumber, 4),
-            Number::Of(entry) => appended(image, id, entry),
+pub(crate) fn append(
+    rt: &(impl Env + Files<File = File>),
+    out: &mut impl Write,
+    image: &mut [u8],
+) -> io::Result<Outcome> {
+    match arguments::number(rt, 3) {
+        Number::Not => Ok(outcome::of(Reason::NotNumber, 3)),
+        Number::Of(id) => match arguments::number(rt, 4) {
+            Number::Not => Ok(outcome::of(Reason::NotNumber, 4)),
+            Number::Of(entry) => appended(rt, out, image, id, entry),
         },
     }
 }

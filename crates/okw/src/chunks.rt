@@ -1,9 +1,11 @@
 // The chunks of an entry: each read to its end and checked.
 use crate::{dump, say};
 use segment_reader::{CrcAnswer, ReadAnswer, ReadChunkResult, SegmentReader};
+use std::io;
+use std::io::Write;
 
 // What was found: a chunk whose CRC is right or wrong, one that is cut, a header that is cut, no chunk.
-#[derive(Drop)]
+#[derive(Clone, Copy)]
 pub enum Kind {
     Right,
     Wrong,
@@ -13,7 +15,7 @@ pub enum Kind {
 }
 
 // The reader at the chunk's data and behind it, the offset of the 02, the length, and how many of its bytes are there.
-#[derive(Drop)]
+#[derive(Clone, Copy)]
 pub struct Chunk {
     open: SegmentReader,
     behind: SegmentReader,
@@ -24,7 +26,7 @@ pub struct Chunk {
 }
 
 // The number of chunks and of their bytes that are there.
-#[derive(Drop)]
+#[derive(Clone, Copy)]
 pub struct Tally {
     pub chunks: u64,
     pub bytes: u64,
@@ -124,49 +126,59 @@ fn stored_crc(image: &[u8], mark: u64, n: u32) -> u32 {
     little_endian::u32_at(image, at)
 }
 
-fn put_crc(image: &[u8], mark: u64, n: u32, verdict: &[u8]) {
-    say::text(b", crc ");
-    say::crc(stored_crc(image, mark, n));
-    say::text(verdict);
+fn put_crc(
+    out: &mut impl Write,
+    image: &[u8],
+    mark: u64,
+    n: u32,
+    verdict: &[u8],
+) -> io::Result<()> {
+    say::text(out, b", crc ")?;
+    say::crc(out, stored_crc(image, mark, n))?;
+    say::text(out, verdict)
 }
 
 // A chunk that is cut: in its data, of which some may be there, or in its CRC.
-fn put_cut(n: u32, present: u32) {
+fn put_cut(out: &mut impl Write, n: u32, present: u32) -> io::Result<()> {
     if present == n {
-        say::text(b", CRC cut\n");
-        return;
+        return say::text(out, b", CRC cut\n");
     }
-    say::with(b", cut: ", present as u64);
-    say::text(b" of them are there\n");
+    say::with(out, b", cut: ", present as u64)?;
+    say::text(out, b" of them are there\n")
 }
 
-fn put_line(chunk: Chunk, image: &[u8]) {
+fn put_line(out: &mut impl Write, chunk: Chunk, image: &[u8]) -> io::Result<()> {
     let kind = chunk.kind;
-    say::with(b"  chunk at ", chunk.mark);
-    say::text(b": ");
+    say::with(out, b"  chunk at ", chunk.mark)?;
+    say::text(out, b": ")?;
     if let Kind::CutHeader = kind {
-        say::text(b"header cut\n");
-        return;
+        return say::text(out, b"header cut\n");
     }
-    say::count(chunk.n as u64, b"byte");
+    say::count(out, chunk.n as u64, b"byte")?;
     match kind {
-        Kind::Right => put_crc(image, chunk.mark, chunk.n, b", right\n"),
-        Kind::Wrong => put_crc(image, chunk.mark, chunk.n, b", wrong\n"),
-        _ => put_cut(chunk.n, chunk.present),
+        Kind::Right => put_crc(out, image, chunk.mark, chunk.n, b", right\n"),
+        Kind::Wrong => put_crc(out, image, chunk.mark, chunk.n, b", wrong\n"),
+        _ => put_cut(out, chunk.n, chunk.present),
     }
 }
 
 // A line for the chunk, and its bytes where they are wanted.
-fn put(chunk: Chunk, image: &[u8], dumped: bool) {
-    put_line(chunk, image);
+fn put(out: &mut impl Write, chunk: Chunk, image: &[u8], dumped: bool) -> io::Result<()> {
+    put_line(out, chunk, image)?;
     if dumped {
         let open = chunk.open;
-        dump::put(open.read(image, chunk.n as u64), open.place);
+        dump::put(out, open.read(image, chunk.n as u64), open.place)?;
     }
+    Ok(())
 }
 
 // The chunks from the reader on.
-pub(crate) fn put_all(from: SegmentReader, image: &[u8], dumped: bool) {
+pub(crate) fn put_all(
+    out: &mut impl Write,
+    from: SegmentReader,
+    image: &[u8],
+    dumped: bool,
+) -> io::Result<()> {
     let mut r = from;
     let mut turns = image.len();
     while turns > 0 {
@@ -175,8 +187,9 @@ pub(crate) fn put_all(from: SegmentReader, image: &[u8], dumped: bool) {
         if is_over(kind) {
             break;
         }
-        put(chunk, image, dumped);
+        put(out, chunk, image, dumped)?;
         r = chunk.behind;
         turns -= 1;
     }
+    Ok(())
 }

@@ -2,9 +2,11 @@
 use crate::outcome::Reason;
 use crate::{chunks, outcome, say};
 use segment_reader::{ChunkCut, EntryAnswer, SegmentReader, WholeAnswer};
+use std::io;
+use std::io::Write;
 
 // Which entries are shown: all of them, those with one id, and then with their bytes, or none.
-#[derive(Drop)]
+#[derive(Clone, Copy)]
 pub enum Choice {
     All,
     Of(u64),
@@ -13,7 +15,7 @@ pub enum Choice {
 
 // The reader behind an entry, the offset where it begins, whether it is complete, whether it was shown, why it was refused, and whether the reading has
 // ended instead.
-#[derive(Drop)]
+#[derive(Clone, Copy)]
 pub struct Turn {
     reader: SegmentReader,
     offset: u64,
@@ -24,7 +26,7 @@ pub struct Turn {
 }
 
 // A whole reading: the end of the valid bytes, the offset of the last entry and whether it is complete, whether any was shown, the first refusal.
-#[derive(Drop)]
+#[derive(Clone, Copy)]
 pub struct Reading {
     pub valid_until: u64,
     pub last: u64,
@@ -45,44 +47,51 @@ fn reason_by(answer: WholeAnswer) -> Reason {
     }
 }
 
-fn put_refused(no: u8) {
-    say::text(b"refused ");
-    outcome::put_number(no);
+fn put_refused(out: &mut impl Write, no: u8) -> io::Result<()> {
+    say::text(out, b"refused ")?;
+    outcome::put_number(out, no)
 }
 
-fn put_verdict(answer: WholeAnswer) {
+fn put_verdict(out: &mut impl Write, answer: WholeAnswer) -> io::Result<()> {
     match answer {
         WholeAnswer::Whole {
             place: _,
             chunks: _,
-        } => say::text(b"complete"),
-        WholeAnswer::Aborted => say::text(b"aborted"),
-        WholeAnswer::Cut(_) => put_refused(9),
-        WholeAnswer::Refused(no) => put_refused(no),
+        } => say::text(out, b"complete"),
+        WholeAnswer::Aborted => say::text(out, b"aborted"),
+        WholeAnswer::Cut(_) => put_refused(out, 9),
+        WholeAnswer::Refused(no) => put_refused(out, no),
     }
 }
 
 // The line of the entry that the reader has just entered, and those of its chunks.
-fn put_entry(r: SegmentReader, image: &[u8], id: u64, answer: WholeAnswer, dumped: bool) {
+fn put_entry(
+    out: &mut impl Write,
+    r: SegmentReader,
+    image: &[u8],
+    id: u64,
+    answer: WholeAnswer,
+    dumped: bool,
+) -> io::Result<()> {
     let tally = chunks::counted(r, image);
-    say::with(b"entry at ", r.valid_until);
-    say::with(b": id ", id);
-    say::text(b", ");
-    put_verdict(answer);
-    say::text(b", ");
-    say::count(tally.chunks, b"chunk");
-    say::text(b", ");
-    say::count(tally.bytes, b"byte");
-    say::end_line();
-    chunks::put_all(r, image, dumped);
+    say::with(out, b"entry at ", r.valid_until)?;
+    say::with(out, b": id ", id)?;
+    say::text(out, b", ")?;
+    put_verdict(out, answer)?;
+    say::text(out, b", ")?;
+    say::count(out, tally.chunks, b"chunk")?;
+    say::text(out, b", ")?;
+    say::count(out, tally.bytes, b"byte")?;
+    say::end_line(out)?;
+    chunks::put_all(out, r, image, dumped)
 }
 
 // A 9 that belongs to no entry.
-fn put_cut(cut: ChunkCut) {
-    say::with(b"cut at ", cut.mark);
-    say::text(b": ");
-    put_refused(9);
-    say::end_line();
+fn put_cut(out: &mut impl Write, cut: ChunkCut) -> io::Result<()> {
+    say::with(out, b"cut at ", cut.mark)?;
+    say::text(out, b": ")?;
+    put_refused(out, 9)?;
+    say::end_line(out)
 }
 
 fn is_chosen(choice: Choice, id: u64) -> bool {
@@ -113,30 +122,36 @@ fn is_complete(answer: WholeAnswer) -> bool {
     }
 }
 
-fn entered(r: SegmentReader, image: &[u8], id: u64, choice: Choice) -> Turn {
+fn entered(
+    out: &mut impl Write,
+    r: SegmentReader,
+    image: &[u8],
+    id: u64,
+    choice: Choice,
+) -> io::Result<Turn> {
     let whole = r.read_all_chunks(image);
     let reader = whole.reader;
     let answer = whole.answer;
     let offset = r.valid_until;
     if is_chosen(choice, id) {
-        put_entry(r, image, id, answer, !is_all(choice));
-        return Turn {
+        put_entry(out, r, image, id, answer, !is_all(choice))?;
+        return Ok(Turn {
             reader,
             offset,
             complete: is_complete(answer),
             shown: true,
             reason: reason_by(answer),
             over: false,
-        };
+        });
     }
-    Turn {
+    Ok(Turn {
         reader,
         offset,
         complete: is_complete(answer),
         shown: false,
         reason: Reason::Fine,
         over: false,
-    }
+    })
 }
 
 fn over(reader: SegmentReader, reason: Reason) -> Turn {
@@ -150,36 +165,46 @@ fn over(reader: SegmentReader, reason: Reason) -> Turn {
     }
 }
 
-fn cut_off(reader: SegmentReader, cut: ChunkCut, choice: Choice) -> Turn {
+fn cut_off(
+    out: &mut impl Write,
+    reader: SegmentReader,
+    cut: ChunkCut,
+    choice: Choice,
+) -> io::Result<Turn> {
     let mut reason = Reason::Fine;
     if is_all(choice) {
-        put_cut(cut);
+        put_cut(out, cut)?;
         reason = Reason::Refused(9);
     }
-    Turn {
+    Ok(Turn {
         reader,
         offset: cut.mark,
         complete: false,
         shown: false,
         reason,
         over: false,
-    }
+    })
 }
 
-fn next(r: SegmentReader, image: &[u8], choice: Choice) -> Turn {
+fn next(out: &mut impl Write, r: SegmentReader, image: &[u8], choice: Choice) -> io::Result<Turn> {
     let step = r.read_entry(image);
     let reader = step.reader;
     let answer = step.answer;
     match answer {
-        EntryAnswer::Entry { id } => entered(reader, image, id, choice),
-        EntryAnswer::Ended => over(reader, Reason::Fine),
-        EntryAnswer::Cut(cut) => cut_off(reader, cut, choice),
-        EntryAnswer::Refused(no) => over(reader, Reason::Refused(no)),
+        EntryAnswer::Entry { id } => entered(out, reader, image, id, choice),
+        EntryAnswer::Ended => Ok(over(reader, Reason::Fine)),
+        EntryAnswer::Cut(cut) => cut_off(out, reader, cut, choice),
+        EntryAnswer::Refused(no) => Ok(over(reader, Reason::Refused(no))),
     }
 }
 
 // Reads to the end, and shows what is chosen. An entry has nine bytes or more, so the turns are never used up.
-pub(crate) fn read(from: SegmentReader, image: &[u8], choice: Choice) -> Reading {
+pub(crate) fn read(
+    out: &mut impl Write,
+    from: SegmentReader,
+    image: &[u8],
+    choice: Choice,
+) -> io::Result<Reading> {
     let mut r = from;
     let mut last = 0;
     let mut complete = false;
@@ -187,7 +212,7 @@ pub(crate) fn read(from: SegmentReader, image: &[u8], choice: Choice) -> Reading
     let mut reason = Reason::Fine;
     let mut turns = image.len();
     while turns > 0 {
-        let met = next(r, image, choice);
+        let met = next(out, r, image, choice)?;
         let why = met.reason;
         reason = outcome::first(reason, why);
         r = met.reader;
@@ -199,11 +224,11 @@ pub(crate) fn read(from: SegmentReader, image: &[u8], choice: Choice) -> Reading
         shown = shown | met.shown;
         turns -= 1;
     }
-    Reading {
+    Ok(Reading {
         valid_until: r.valid_until,
         last,
         complete,
         shown,
         reason,
-    }
+    })
 }

@@ -1,79 +1,132 @@
 // Segment files: read whole, written whole.
-ghost use Rattle.std.specs.Prelude.{◌+◌, ◌≤◌, length};
-ghost use Rattle.libc.specs.Io.{Ended};
+ghost use Rattle.std.specs.Prelude.{◌+◌, ◌≤◌, IfOk, length};
 
 use crate::outcome::Reason;
-use crate::{modes, outcome};
+use crate::{arguments, modes, outcome};
+use std::env::FillError;
+use std::fs::{File, OpenOptions};
+use std::io::{ErrorKind, Read, Write};
+use std::rt::{Env, Files};
+use std::{fs, io, str};
 
 // The number of bytes that a file has put at the start of the image, or why not.
-#[derive(Drop)]
+#[derive(Clone, Copy)]
 pub enum Loaded {
     Bytes(usize),
     Failed(Reason),
 }
 
+// ---- names
+
+// A path as std takes it. A name that is not UTF-8 is none that it can open.
+fn name(path: &[u8]) -> io::Result<&str> {
+    match str::from_utf8(path) {
+        Ok(name) => Ok(name),
+        Err(_) => Err(io::Error::from(ErrorKind::InvalidInput)),
+    }
+}
+
+// Why the argument is no path.
+fn no_path(error: FillError) -> Reason {
+    match error {
+        FillError::NotPresent => Reason::System(ErrorKind::InvalidInput),
+        FillError::TooLong => Reason::System(ErrorKind::InvalidFilename),
+    }
+}
+
 // ---- reading
 
+// Reads until the image is full or the file ends, and answers the number of bytes.
+fn read_full(file: &mut File, image: &mut [u8]) -> io::Result<usize>
+    ensures { IfOk result (λ n. n ≤ length image.new) }
+{
+    let mut n = 0;
+    while n < image.len() {
+        let got = file.read(&mut image[n..])?;
+        if got == 0 {
+            break;
+        }
+        n += got;
+    }
+    Ok(n)
+}
+
 // Reads to the file's end: one more read must find nothing, so a file that is longer, or that cannot be read on, is not taken for a shorter one.
-fn read_whole(fd: i32, image: &mut [u8]) -> Loaded {
-    let n = io::read_full(fd, image);
+fn read_whole(file: &mut File, image: &mut [u8]) -> Loaded {
+    let n = match read_full(file, image) {
+        Ok(n) => n,
+        Err(error) => return Loaded::Failed(Reason::System(error.kind())),
+    };
     let mut more = [0u8; 1];
-    let got = libc::read(fd, &mut more);
-    if got < 0 {
-        return Loaded::Failed(Reason::System(os::errno()));
+    match file.read(&mut more) {
+        Ok(0) => Loaded::Bytes(n),
+        Ok(_) => Loaded::Failed(Reason::TooLarge),
+        Err(error) => Loaded::Failed(Reason::System(error.kind())),
     }
-    if got > 0 {
-        return Loaded::Failed(Reason::TooLarge);
-    }
-    Loaded::Bytes(n)
 }
 
 // A file that is to be replaced is opened as one to write, so that its permission counts.
-fn open(path: &[u8], to_replace: bool) -> i32 {
-    if to_replace {
-        return os::open_update(path);
-    }
-    os::open_read(path)
+fn open(rt: &impl Files<File = File>, path: &[u8], to_replace: bool) -> io::Result<File> {
+    OpenOptions::new()
+        .read(true)
+        .write(to_replace)
+        .open(rt, name(path)?)
 }
 
 // The file that the argument names.
-pub(crate) fn load(argument: usize, image: &mut [u8], to_replace: bool) -> Loaded {
-    let mut path = io::buffer();
-    let n = os::arg(argument, &mut path);
-    if os::errno() != 0 {
-        return Loaded::Failed(Reason::System(os::errno()));
+pub(crate) fn load(
+    rt: &(impl Env + Files<File = File>),
+    argument: usize,
+    image: &mut [u8],
+    to_replace: bool,
+) -> Loaded {
+    let mut path = [0u8; 4096];
+    let n = match rt.arg(argument, &mut path) {
+        Ok(n) => n,
+        Err(error) => return Loaded::Failed(no_path(error)),
+    };
+    match open(rt, &path[..n], to_replace) {
+        Ok(file) => {
+            let mut file = file;
+            read_whole(&mut file, image)
+        }
+        Err(error) => Loaded::Failed(Reason::System(error.kind())),
     }
-    let fd = open(&path[..n], to_replace);
-    if fd < 0 {
-        return Loaded::Failed(Reason::System(os::errno()));
-    }
-    let loaded = read_whole(fd, image);
-    libc::close(fd);
-    loaded
 }
 
 // ---- writing
 
-fn put_whole(fd: i32, bytes: &[u8]) -> Reason {
-    if !io::write_all(fd, bytes) {
-        return Reason::System(os::errno());
+fn create_new(rt: &impl Files<File = File>, path: &[u8]) -> io::Result<File> {
+    OpenOptions::new()
+        .write(true)
+        .create_new(true)
+        .open(rt, name(path)?)
+}
+
+fn remove(rt: &impl Files<File = File>, path: &[u8]) -> io::Result<()> {
+    fs::remove_file(rt, name(path)?)
+}
+
+fn put_whole(file: &mut File, bytes: &[u8]) -> Reason {
+    if let Err(error) = file.write_all(bytes) {
+        return Reason::System(error.kind());
     }
-    if libc::fsync(fd) != 0 {
-        return Reason::System(os::errno());
+    if let Err(error) = file.sync_all() {
+        return Reason::System(error.kind());
     }
     Reason::Fine
 }
 
 // A new file with these bytes, synchronized; it is removed where it cannot be written whole.
-fn put_new(path: &[u8], bytes: &[u8]) -> Reason {
-    let fd = os::create(path);
-    if fd < 0 {
-        return Reason::System(os::errno());
-    }
-    let reason = put_whole(fd, bytes);
-    libc::close(fd);
+fn put_new(rt: &impl Files<File = File>, path: &[u8], bytes: &[u8]) -> Reason {
+    let mut file = match create_new(rt, path) {
+        Ok(file) => file,
+        Err(error) => return Reason::System(error.kind()),
+    };
+    let reason = put_whole(&mut file, bytes);
+    drop(file);
     if !outcome::is_fine(reason) {
-        os::unlink(path);
+        let _ = remove(rt, path);
     }
     reason
 }
@@ -92,44 +145,49 @@ fn folder_length(path: &[u8]) -> usize
     0
 }
 
-fn open_folder(path: &[u8]) -> i32 {
+fn open_folder(rt: &impl Files<File = File>, path: &[u8]) -> io::Result<File> {
     let k = folder_length(path);
     if k == 0 {
-        return os::open_read(b".");
+        return File::open(rt, ".");
     }
-    os::open_read(&path[..k])
+    File::open(rt, name(&path[..k])?)
 }
 
 // Synchronizes the folder, so that the file's name lasts; a file system that cannot do that is left at it.
-fn synchronize_folder(path: &[u8]) {
-    let fd = open_folder(path);
-    if fd < 0 {
-        return;
+fn synchronize_folder(rt: &impl Files<File = File>, path: &[u8]) {
+    if let Ok(folder) = open_folder(rt, path) {
+        let _ = folder.sync_all();
     }
-    libc::fsync(fd);
-    libc::close(fd);
 }
 
 // Makes the file that the argument names.
-pub(crate) fn create(argument: usize, bytes: &[u8]) -> Reason {
-    let mut path = io::buffer();
-    let n = os::arg(argument, &mut path);
-    if os::errno() != 0 {
-        return Reason::System(os::errno());
-    }
-    let reason = put_new(&path[..n], bytes);
+pub(crate) fn create(
+    rt: &(impl Env + Files<File = File>),
+    argument: usize,
+    bytes: &[u8],
+) -> Reason {
+    let mut path = [0u8; 4096];
+    let n = match rt.arg(argument, &mut path) {
+        Ok(n) => n,
+        Err(error) => return no_path(error),
+    };
+    let reason = put_new(rt, &path[..n], bytes);
     if outcome::is_fine(reason) {
-        synchronize_folder(&path[..n]);
+        synchronize_folder(rt, &path[..n]);
     }
     reason
 }
 
 // ---- replacing
 
-// The new file beside the one that is to be replaced, open to be written, or why there is none.
-#[derive(Drop)]
+// The new file beside the one that is to be replaced, open to be written. It is linear: each path must end in remove_beside or put_over.
+pub struct NewFile {
+    file: File,
+}
+
+// The new file, or why there is none.
 pub enum Beside {
-    Made(i32),
+    Made(NewFile),
     Failed(Reason),
 }
 
@@ -144,85 +202,87 @@ fn name_beside(path: &[u8], beside: &mut [u8]) -> usize
     n + 4
 }
 
-// The path as C reads it, up to a 0.
-fn ended(path: &[u8]) -> [u8; 4096]
-    requires { length path.now ≤ 4095 }
-    ensures { Ended result }
-{
-    let mut ended = io::buffer();
-    lists::copy_at(&mut ended, 0, path);
-    ended[4095] = 0;
-    ended
+fn symlink_at(rt: &impl Files<File = File>, path: &[u8]) -> io::Result<bool> {
+    Ok(fs::symlink_metadata(rt, name(path)?)?.is_symlink())
 }
 
-fn is_link(path: &[u8]) -> bool {
-    if path.len() > 4095 {
-        return false;
-    }
-    let name = ended(path);
-    let mut target = [0u8; 1];
-    libc::readlink(&name, &mut target) >= 0
+fn is_link(rt: &impl Files<File = File>, path: &[u8]) -> bool {
+    symlink_at(rt, path).unwrap_or(false)
 }
 
-fn make_new(path: &[u8]) -> Beside {
-    let mut beside = io::buffer();
+fn make_new(rt: &impl Files<File = File>, path: &[u8]) -> Beside {
+    let mut beside = [0u8; 4096];
     if path.len() > 4091 {
-        return Beside::Failed(Reason::Beside(libc::ENAMETOOLONG));
+        return Beside::Failed(Reason::Beside(ErrorKind::InvalidFilename));
     }
-    if is_link(path) {
+    if is_link(rt, path) {
         return Beside::Failed(Reason::Link);
     }
     let n = name_beside(path, &mut beside);
-    let fd = os::create(text::first(&beside, n));
-    if fd < 0 {
-        return Beside::Failed(Reason::Beside(os::errno()));
+    match create_new(rt, text::first(&beside, n)) {
+        Ok(file) => Beside::Made(NewFile { file }),
+        Err(error) => Beside::Failed(Reason::Beside(error.kind())),
     }
-    Beside::Made(fd)
 }
 
 // Makes the new file beside the one that the argument names. While it is there no other run makes one, so no other run replaces the file.
-pub(crate) fn make_beside(argument: usize) -> Beside {
-    let mut path = io::buffer();
-    let n = os::arg(argument, &mut path);
-    make_new(&path[..n])
+pub(crate) fn make_beside(rt: &(impl Env + Files<File = File>), argument: usize) -> Beside {
+    let mut path = [0u8; 4096];
+    let n = arguments::stored(rt, argument, &mut path);
+    make_new(rt, &path[..n])
 }
 
-fn remove_new(path: &[u8]) {
-    let mut beside = io::buffer();
+fn remove_new(rt: &impl Files<File = File>, path: &[u8]) {
+    let mut beside = [0u8; 4096];
     if path.len() > 4091 {
         return;
     }
     let n = name_beside(path, &mut beside);
-    os::unlink(text::first(&beside, n));
+    let _ = remove(rt, text::first(&beside, n));
 }
 
 // Removes the new file again, for the reason given.
-pub(crate) fn remove_beside(argument: usize, fd: i32, reason: Reason) -> Reason {
-    let mut path = io::buffer();
-    let n = os::arg(argument, &mut path);
-    libc::close(fd);
-    remove_new(&path[..n]);
+pub(crate) fn remove_beside(
+    rt: &(impl Env + Files<File = File>),
+    argument: usize,
+    new: NewFile,
+    reason: Reason,
+) -> Reason {
+    let mut path = [0u8; 4096];
+    let n = arguments::stored(rt, argument, &mut path);
+    let NewFile { file } = new;
+    drop(file);
+    remove_new(rt, &path[..n]);
     reason
 }
 
-// Puts the file at new in the place of the one at old.
-fn rename_over(new: &[u8], old: &[u8]) -> Reason {
-    if os::rename(new, old) == 0 {
-        synchronize_folder(old);
-        return Reason::Fine;
-    }
-    let error = os::errno();
-    os::unlink(new);
-    Reason::System(error)
+fn rename(rt: &impl Files<File = File>, new: &[u8], old: &[u8]) -> io::Result<()> {
+    fs::rename(rt, name(new)?, name(old)?)
 }
 
-fn put_over(path: &[u8]) -> Reason {
-    let mut beside = io::buffer();
+// Puts the file at new in the place of the one at old.
+fn rename_over(rt: &impl Files<File = File>, new: &[u8], old: &[u8]) -> Reason {
+    match rename(rt, new, old) {
+        Ok(()) => {
+            synchronize_folder(rt, old);
+            Reason::Fine
+        }
+        Err(error) => {
+            let _ = remove(rt, new);
+            Reason::System(error.kind())
+        }
+    }
+}
+
+fn put_over(rt: &impl Files<File = File>, path: &[u8], new: NewFile) -> Reason {
+    let mut beside = [0u8; 4096];
+    let NewFile { file } = new;
+    drop(file);
     if path.len() > 4091 {
-        return Reason::Beside(libc::ENAMETOOLONG);
+        return Reason::Beside(ErrorKind::InvalidFilename);
     }
     let n = name_beside(path, &mut beside);
-    rename_over(text::first(&beside, n), path)
+    rename_over(rt, text::first(&beside, n), path)
 }
 
 fn at_the_file_beside(reason: Reason) -> Reason {
@@ -233,36 +293,38 @@ fn at_the_file_beside(reason: Reason) -> Reason {
 }
 
 // Gives the new file the owner, group and mode of the one at the path.
-fn keep_mode(path: &[u8], fd: i32) -> Reason {
-    let old = os::open_read(path);
-    if old < 0 {
-        return Reason::System(os::errno());
+fn keep_mode(rt: &impl Files<File = File>, path: &[u8], new: &NewFile) -> Reason {
+    let old = match open(rt, path, false) {
+        Ok(old) => old,
+        Err(error) => return Reason::System(error.kind()),
+    };
+    match modes::keep(&old, &new.file) {
+        Ok(()) => Reason::Fine,
+        Err(error) => Reason::Beside(error.kind()),
     }
-    let error = modes::keep(old, fd);
-    libc::close(old);
-    if error != 0 {
-        return Reason::Beside(error);
-    }
-    Reason::Fine
 }
 
 // The mode comes before the bytes, so that these are not written to a file that more people may open than the old one.
-fn put_like(path: &[u8], fd: i32, bytes: &[u8]) -> Reason {
-    let reason = keep_mode(path, fd);
+fn put_like(rt: &impl Files<File = File>, path: &[u8], new: &mut NewFile, bytes: &[u8]) -> Reason {
+    let reason = keep_mode(rt, path, new);
     if !outcome::is_fine(reason) {
         return reason;
     }
-    at_the_file_beside(put_whole(fd, bytes))
+    at_the_file_beside(put_whole(&mut new.file, bytes))
 }
 
 // Writes the new file whole, synchronizes it, and renames it over the one that the argument names.
-pub(crate) fn replace(argument: usize, fd: i32, bytes: &[u8]) -> Reason {
-    let mut path = io::buffer();
-    let n = os::arg(argument, &mut path);
-    let reason = put_like(&path[..n], fd, bytes);
+pub(crate) fn replace(
+    rt: &(impl Env + Files<File = File>),
+    argument: usize,
+    mut new: NewFile,
+    bytes: &[u8],
+) -> Reason {
+    let mut path = [0u8; 4096];
+    let n = arguments::stored(rt, argument, &mut path);
+    let reason = put_like(rt, &path[..n], &mut new, bytes);
     if !outcome::is_fine(reason) {
-        return remove_beside(argument, fd, reason);
+        return remove_beside(rt, argument, new, reason);
     }
-    libc::close(fd);
-    put_over(&path[..n])
+    put_over(rt, &path[..n], new)
 }

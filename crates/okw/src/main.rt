@@ -6,6 +6,8 @@
 //     okw append FILE ID ENTRY_ID TEXT ...   one entry more, with a chunk for each TEXT
 //
 // The last line says `ok`, or what was refused and why; a refused run leaves every file as it was.
+#![tactic(auto)]
+
 ghost use Rattle.std.specs.Prelude.{◌≡◌, length};
 
 mod append;
@@ -22,6 +24,10 @@ mod written;
 
 use arguments::Command;
 use outcome::Outcome;
+use std::fs::File;
+use std::io;
+use std::io::{BufWriter, Write};
+use std::rt::{Env, Files};
 
 // The largest segment.
 fn room() -> [u8; 1048576]
@@ -30,17 +36,25 @@ fn room() -> [u8; 1048576]
     [0; 1048576]
 }
 
-fn run(command: Command, image: &mut [u8]) -> Outcome {
+fn run(
+    rt: &(impl Env + Files<File = File>),
+    out: &mut impl Write,
+    command: Command,
+    image: &mut [u8],
+) -> io::Result<Outcome> {
     match command {
-        Command::List => list::list(image),
-        Command::Show => list::show(image),
-        Command::New => append::new(image),
-        Command::Append => append::append(image),
-        Command::Unknown => arguments::usage(),
+        Command::List => list::list(rt, out, image),
+        Command::Show => list::show(rt, out, image),
+        Command::New => Ok(append::new(rt, image)),
+        Command::Append => append::append(rt, out, image),
+        Command::Unknown => arguments::usage(out),
     }
 }
 
-fn main() {
+fn main(rt: HostRuntime) -> io::Result<()> {
     let mut image = room();
-    outcome::put_last(run(arguments::asked(), &mut image));
+    let mut out = BufWriter::new(rt.alloc(), io::writer(&rt))?;
+    let ended = run(&rt, &mut out, arguments::asked(&rt), &mut image)?;
+    outcome::put_last(&rt, &mut out, ended)?;
+    out.flush()
 }

@@ -1,14 +1,17 @@
 // How a run ended, and how that is said.
 use crate::{arguments, say};
+use std::io;
+use std::io::{ErrorKind, Write};
+use std::rt::Env;
 
-#[derive(Drop)]
+#[derive(Clone, Copy)]
 pub enum Reason {
     Fine,
     // a refusal of a proved call, by its number
     Refused(u8),
-    // the system's number of an error: at the file, or at the new file beside it
-    System(i32),
-    Beside(i32),
+    // the system's kind of an error: at the file, or at the new file beside it
+    System(ErrorKind),
+    Beside(ErrorKind),
     Link,
     TooLarge,
     NotNumber,
@@ -22,7 +25,7 @@ pub enum Reason {
 }
 
 // The reason, and the argument that it is about.
-#[derive(Drop)]
+#[derive(Clone, Copy)]
 pub struct Outcome {
     pub reason: Reason,
     pub argument: usize,
@@ -46,108 +49,115 @@ pub(crate) fn first(a: Reason, b: Reason) -> Reason {
 }
 
 // The meaning of the numbers that opening and reading a segment refuse with.
-fn reading_meaning(no: u8) {
+fn reading_meaning(out: &mut impl Write, no: u8) -> io::Result<()> {
     match no {
         1 => say::text(
+            out,
             b"fewer than 5 header bytes, or fewer than the version info's length after them",
         ),
-        2 => say::text(b"the first three header bytes differ"),
-        3 => say::text(b"the fourth header byte is not 0"),
-        4 => say::text(b"version info longer than 255"),
-        9 => say::text(b"a chunk's header, data or CRC is cut by the image's end"),
-        10 => say::text(b"stored CRC differs, in reading a whole entry"),
-        _ => say::text(b"an argument outside its range"),
+        2 => say::text(out, b"the first three header bytes differ"),
+        3 => say::text(out, b"the fourth header byte is not 0"),
+        4 => say::text(out, b"version info longer than 255"),
+        9 => say::text(
+            out,
+            b"a chunk's header, data or CRC is cut by the image's end",
+        ),
+        10 => say::text(out, b"stored CRC differs, in reading a whole entry"),
+        _ => say::text(out, b"an argument outside its range"),
     }
 }
 
-fn meaning(no: u8) {
+fn meaning(out: &mut impl Write, no: u8) -> io::Result<()> {
     match no {
-        5 => say::text(b"no room"),
-        6 => say::text(b"the call does not belong to the present moment"),
-        7 => say::text(b"entry id below the segment id"),
-        8 => say::text(b"a chunk is finished with bytes still owed"),
-        11 => say::text(b"a seek lands below 0 or past the image size"),
-        _ => reading_meaning(no),
+        5 => say::text(out, b"no room"),
+        6 => say::text(out, b"the call does not belong to the present moment"),
+        7 => say::text(out, b"entry id below the segment id"),
+        8 => say::text(out, b"a chunk is finished with bytes still owed"),
+        11 => say::text(out, b"a seek lands below 0 or past the image size"),
+        _ => reading_meaning(out, no),
     }
 }
 
 // As `10 (stored CRC differs, in reading a whole entry)`.
-pub(crate) fn put_number(no: u8) {
-    say::number(no as u64);
-    say::text(b" (");
-    meaning(no);
-    say::text(b")");
+pub(crate) fn put_number(out: &mut impl Write, no: u8) -> io::Result<()> {
+    say::number(out, no as u64)?;
+    say::text(out, b" (")?;
+    meaning(out, no)?;
+    say::text(out, b")")
 }
 
-// The system's own numbers of errors, in words.
-fn put_system(error: i32) {
+// The system's own kinds of errors, in words.
+fn put_system(out: &mut impl Write, error: ErrorKind) -> io::Result<()> {
     match error {
-        libc::ENOENT => say::text(b"no such file or folder"),
-        libc::EACCES | libc::EPERM => say::text(b"no permission"),
-        libc::EEXIST => say::text(b"it exists already"),
-        libc::ENOTDIR => say::text(b"a part of its path is no folder"),
-        libc::EISDIR => say::text(b"it is a folder"),
-        libc::EINVAL => say::text(b"no name of a file"),
-        libc::ENOSPC => say::text(b"no space left on the device"),
-        libc::EROFS => say::text(b"its file system is read-only"),
-        libc::ENAMETOOLONG => say::text(b"its name is too long"),
-        _ => say::text(b"the system cannot read or write it"),
+        ErrorKind::NotFound => say::text(out, b"no such file or folder"),
+        ErrorKind::PermissionDenied => say::text(out, b"no permission"),
+        ErrorKind::AlreadyExists => say::text(out, b"it exists already"),
+        ErrorKind::NotADirectory => say::text(out, b"a part of its path is no folder"),
+        ErrorKind::IsADirectory => say::text(out, b"it is a folder"),
+        ErrorKind::InvalidInput => say::text(out, b"no name of a file"),
+        ErrorKind::StorageFull => say::text(out, b"no space left on the device"),
+        ErrorKind::ReadOnlyFilesystem => say::text(out, b"its file system is read-only"),
+        ErrorKind::InvalidFilename => say::text(out, b"its name is too long"),
+        _ => say::text(out, b"the system cannot read or write it"),
     }
 }
 
 // As `12 (an argument outside its range): the entry at 84 is cut, the valid bytes would end at 132, past the file`.
-fn put_cut(what: &[u8], offset: u64, valid_until: u64) {
-    put_number(12);
-    say::with(what, offset);
-    say::with(b" is cut, the valid bytes would end at ", valid_until);
-    say::text(b", past the file");
+fn put_cut(out: &mut impl Write, what: &[u8], offset: u64, valid_until: u64) -> io::Result<()> {
+    put_number(out, 12)?;
+    say::with(out, what, offset)?;
+    say::with(out, b" is cut, the valid bytes would end at ", valid_until)?;
+    say::text(out, b", past the file")
 }
 
-fn put_beside(error: i32) {
-    say::text(b"the new file beside it, its name and .new: ");
-    put_system(error);
-    if error == libc::EEXIST {
-        say::text(b"; another run is at it, or left it when it was cut off: then remove it");
+fn put_beside(out: &mut impl Write, error: ErrorKind) -> io::Result<()> {
+    say::text(out, b"the new file beside it, its name and .new: ")?;
+    put_system(out, error)?;
+    if error == ErrorKind::AlreadyExists {
+        say::text(
+            out,
+            b"; another run is at it, or left it when it was cut off: then remove it",
+        )?;
     }
+    Ok(())
 }
 
-pub(crate) fn put_reason(reason: Reason) {
+pub(crate) fn put_reason(rt: &impl Env, out: &mut impl Write, reason: Reason) -> io::Result<()> {
     match reason {
-        Reason::Fine => say::text(b"ok"),
-        Reason::Refused(no) => put_number(no),
-        Reason::System(error) => put_system(error),
-        Reason::Beside(error) => put_beside(error),
-        Reason::Link => say::text(b"it is a link: expected the file that it leads to"),
+        Reason::Fine => say::text(out, b"ok"),
+        Reason::Refused(no) => put_number(out, no),
+        Reason::System(error) => put_system(out, error),
+        Reason::Beside(error) => put_beside(out, error),
+        Reason::Link => say::text(out, b"it is a link: expected the file that it leads to"),
         Reason::TooLarge => {
-            put_number(12);
-            say::text(b": a segment has at most 1048576 bytes");
+            put_number(out, 12)?;
+            say::text(out, b": a segment has at most 1048576 bytes")
         }
-        Reason::NotNumber => say::text(b"expected a number from 0 to 18446744073709551615"),
-        Reason::TooLong => say::text(b"expected each TEXT to have at most 131072 bytes"),
-        Reason::NoEntry => say::text(b"expected the id of an entry in the segment"),
+        Reason::NotNumber => { say::text(out, b"expected a number from 0 to 18446744073709551615") }
+        Reason::TooLong => say::text(out, b"expected each TEXT to have at most 131072 bytes"),
+        Reason::NoEntry => say::text(out, b"expected the id of an entry in the segment"),
         Reason::CutEntry {
             offset,
             valid_until,
-        } => put_cut(b": the entry at ", offset, valid_until),
+        } => put_cut(out, b": the entry at ", offset, valid_until),
         Reason::CutBehind {
             offset,
             valid_until,
-        } => put_cut(b": a chunk behind the entry at ", offset, valid_until),
-        Reason::Usage => arguments::put_expected(),
+        } => put_cut(out, b": a chunk behind the entry at ", offset, valid_until),
+        Reason::Usage => arguments::put_expected(rt, out),
     }
 }
 
 // The last line of a run.
-pub(crate) fn put_last(o: Outcome) {
+pub(crate) fn put_last(rt: &impl Env, out: &mut impl Write, o: Outcome) -> io::Result<()> {
     let reason = o.reason;
     if is_fine(reason) {
-        say::text(b"ok\n");
-        return;
+        return say::text(out, b"ok\n");
     }
-    say::text(b"refused: ");
-    arguments::put_role(o.argument);
-    arguments::put_word(o.argument);
-    say::text(b": ");
-    put_reason(reason);
-    say::end_line();
+    say::text(out, b"refused: ")?;
+    arguments::put_role(rt, out, o.argument)?;
+    arguments::put_word(rt, out, o.argument)?;
+    say::text(out, b": ")?;
+    put_reason(rt, out, reason)?;
+    say::end_line(out)
 }

@@ -1,40 +1,42 @@
-// Words and numbers on standard output.
-use libc::STDOUT_FILENO;
+// Words and numbers on the output.
+use std::io;
+use std::io::Write;
 
-pub(crate) fn text(words: &[u8]) {
-    io::write_all(STDOUT_FILENO, words);
+pub(crate) fn text(out: &mut impl Write, words: &[u8]) -> io::Result<()> {
+    out.write_all(words)
 }
 
-pub(crate) fn end_line() {
-    text(b"\n");
+pub(crate) fn end_line(out: &mut impl Write) -> io::Result<()> {
+    text(out, b"\n")
 }
 
-pub(crate) fn number(n: u64) {
-    io::print_decimal(STDOUT_FILENO, n);
+pub(crate) fn number(out: &mut impl Write, n: u64) -> io::Result<()> {
+    write!(out, "{n}")
 }
 
 // Words, and a number behind them.
-pub(crate) fn with(words: &[u8], n: u64) {
-    text(words);
-    number(n);
+pub(crate) fn with(out: &mut impl Write, words: &[u8], n: u64) -> io::Result<()> {
+    text(out, words)?;
+    number(out, n)
 }
 
 // As `1 byte`, `2 bytes`.
-pub(crate) fn count(n: u64, what: &[u8]) {
-    number(n);
-    text(b" ");
-    text(what);
+pub(crate) fn count(out: &mut impl Write, n: u64, what: &[u8]) -> io::Result<()> {
+    number(out, n)?;
+    text(out, b" ")?;
+    text(out, what)?;
     if n != 1 {
-        text(b"s");
+        text(out, b"s")?;
     }
+    Ok(())
 }
 
-pub(crate) fn crc(sum: u32) {
-    io::print_hex(STDOUT_FILENO, sum as u64, 8);
+pub(crate) fn crc(out: &mut impl Write, sum: u32) -> io::Result<()> {
+    write!(out, "{sum:08x}")
 }
 
-pub(crate) fn byte(b: u8) {
-    io::print_hex(STDOUT_FILENO, b as u64, 2);
+pub(crate) fn byte(out: &mut impl Write, b: u8) -> io::Result<()> {
+    write!(out, "{b:02x}")
 }
 
 // The sum, at most 2^64 - 1.

@@ -1,13 +1,14 @@
 // One entry, written: the calls of an open writer in turn, up to the first refusal.
 ghost use Rattle.std.specs.Prelude.{◌≡◌, length};
 
-use crate::outcome;
 use crate::outcome::Reason;
+use crate::{arguments, outcome};
 use log_file::entries::{CommitAnswer, FinishAnswer, WriteAnswer};
 use log_file::{Answer, LogFileWriter, entries, file};
+use std::rt::Env;
 
 // The writer behind a call, and why it was refused.
-#[derive(Drop)]
+#[derive(Clone, Copy)]
 pub struct Step {
     writer: LogFileWriter,
     reason: Reason,
@@ -101,24 +102,35 @@ fn text_room() -> [u8; 131072]
 }
 
 // The text that the argument holds, as a chunk.
-fn put_text(w: LogFileWriter, image: &mut [u8], staging: &mut [u8], argument: usize) -> Step {
+fn put_text(
+    rt: &impl Env,
+    w: LogFileWriter,
+    image: &mut [u8],
+    staging: &mut [u8],
+    argument: usize,
+) -> Step {
     let mut word = text_room();
-    let n = os::arg(argument, &mut word);
-    if os::errno() != 0 {
-        return Step {
+    match rt.arg(argument, &mut word) {
+        Ok(n) => put_chunk(w, image, staging, &word[..n]),
+        Err(_) => Step {
             writer: w,
             reason: Reason::TooLong,
-        };
+        },
     }
-    put_chunk(w, image, staging, &word[..n])
 }
 
 // The texts, from the fifth argument on.
-fn put_texts(from: LogFileWriter, image: &mut [u8], staging: &mut [u8], count: usize) -> Step {
+fn put_texts(
+    rt: &impl Env,
+    from: LogFileWriter,
+    image: &mut [u8],
+    staging: &mut [u8],
+    count: usize,
+) -> Step {
     let mut w = from;
     let mut i = 5;
     while i < count {
-        let step = put_text(w, image, staging, i);
+        let step = put_text(rt, w, image, staging, i);
         let reason = step.reason;
         if !outcome::is_fine(reason) {
             return step;
@@ -145,8 +157,8 @@ fn commit(w: LogFileWriter, image: &mut [u8], staging: &mut [u8]) -> Reason {
 }
 
 // The texts, and the end of the entry.
-fn put_rest(w: LogFileWriter, image: &mut [u8], staging: &mut [u8]) -> Reason {
-    let step = put_texts(w, image, staging, os::arg_count());
+fn put_rest(rt: &impl Env, w: LogFileWriter, image: &mut [u8], staging: &mut [u8]) -> Reason {
+    let step = put_texts(rt, w, image, staging, arguments::count(rt));
     let writer = step.writer;
     let reason = step.reason;
     if !outcome::is_fine(reason) {
@@ -156,7 +168,13 @@ fn put_rest(w: LogFileWriter, image: &mut [u8], staging: &mut [u8]) -> Reason {
 }
 
 // Writes, commits and flushes an entry with a chunk for each text.
-pub(crate) fn put_entry(w: LogFileWriter, image: &mut [u8], staging: &mut [u8], id: u64) -> Reason {
+pub(crate) fn put_entry(
+    rt: &impl Env,
+    w: LogFileWriter,
+    image: &mut [u8],
+    staging: &mut [u8],
+    id: u64,
+) -> Reason {
     let begun = entries::begin_entry(w, image, staging, id);
     let writer = begun.writer;
     let answer = begun.answer;
@@ -164,5 +182,5 @@ pub(crate) fn put_entry(w: LogFileWriter, image: &mut [u8], staging: &mut [u8], 
     if !outcome::is_fine(reason) {
         return reason;
     }
-    put_rest(writer, image, staging)
+    put_rest(rt, writer, image, staging)
 }

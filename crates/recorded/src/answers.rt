@@ -1,8 +1,9 @@
 // The numbers of an answer, and how they are written; the words of a line as numbers.
-use libc::STDOUT_FILENO;
+use std::io;
+use std::io::Write;
 
 // The number of refusal, 0 where there is none, and four words.
-#[derive(Drop)]
+#[derive(Clone, Copy)]
 pub struct Reply {
     pub no: u8,
     pub a: u64,
@@ -26,43 +27,43 @@ pub(crate) fn words(a: u64, b: u64, c: u64, d: u64) -> Reply {
 }
 
 // A space and the number.
-pub(crate) fn put(n: u64) {
-    io::write_all(STDOUT_FILENO, b" ");
-    io::print_decimal(STDOUT_FILENO, n);
+pub(crate) fn put<W: Write>(out: &mut W, n: u64) -> io::Result<()> {
+    write!(out, " {n}")
 }
 
-pub(crate) fn put_reply(r: Reply) {
-    io::print_decimal(STDOUT_FILENO, r.no as u64);
-    put(r.a);
-    put(r.b);
-    put(r.c);
-    put(r.d);
+pub(crate) fn put_reply<W: Write>(out: &mut W, r: Reply) -> io::Result<()> {
+    write!(out, "{}", r.no)?;
+    put(out, r.a)?;
+    put(out, r.b)?;
+    put(out, r.c)?;
+    put(out, r.d)
 }
 
-pub(crate) fn end_line() {
-    io::write_all(STDOUT_FILENO, b"\n");
+pub(crate) fn end_line<W: Write>(out: &mut W) -> io::Result<()> {
+    writeln!(out)
 }
 
-fn put_byte(byte: u8) {
-    io::print_hex(STDOUT_FILENO, byte as u64, 2);
+fn put_byte<W: Write>(out: &mut W, byte: u8) -> io::Result<()> {
+    write!(out, "{byte:02x}")
 }
 
 // A space and the bytes.
-pub(crate) fn put_bytes(bytes: &[u8]) {
-    io::write_all(STDOUT_FILENO, b" ");
-    put_hex(bytes);
+pub(crate) fn put_bytes<W: Write>(out: &mut W, bytes: &[u8]) -> io::Result<()> {
+    write!(out, " ")?;
+    put_hex(out, bytes)
 }
 
 // The bytes as pairs of hex digits, `-` for none.
-pub(crate) fn put_hex(bytes: &[u8]) {
+pub(crate) fn put_hex<W: Write>(out: &mut W, bytes: &[u8]) -> io::Result<()> {
     if bytes.len() == 0 {
-        io::write_all(STDOUT_FILENO, b"-");
+        write!(out, "-")?;
     }
     let mut i = 0;
     while i < bytes.len() {
-        put_byte(bytes[i]);
+        put_byte(out, bytes[i])?;
         i += 1;
     }
+    Ok(())
 }
 
 // The k-th word as a number; 0 where it is none.

@@ -1,7 +1,7 @@
 // The calls of the list by their names.
 
 // The calls of an open writer.
-#[derive(Drop)]
+#[derive(Clone, Copy)]
 pub enum WriterCall {
     Begin,
     Chunk,
@@ -18,7 +18,7 @@ pub enum WriterCall {
 }
 
 // The calls of an open reader; `Next` is the one for a chunk.
-#[derive(Drop)]
+#[derive(Clone, Copy)]
 pub enum ReaderCall {
     Entry,
     Next,
@@ -29,14 +29,14 @@ pub enum ReaderCall {
 }
 
 // The first entry, and the bytes of its first chunk.
-#[derive(Drop)]
+#[derive(Clone, Copy)]
 pub enum FirstCall {
     First,
     Bytes,
 }
 
 // A position as bytes, bytes as a position, a sum; anything else is no call.
-#[derive(Drop)]
+#[derive(Clone, Copy)]
 pub enum SmallCall {
     Put,
     Get,
@@ -44,7 +44,7 @@ pub enum SmallCall {
     Unknown,
 }
 
-#[derive(Drop)]
+#[derive(Clone, Copy)]
 pub enum Call {
     Open,
     Writer(WriterCall),

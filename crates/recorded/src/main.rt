@@ -4,7 +4,9 @@
 // The list is made by the comparison with the Rust (compare/, its `record` command), one line `CALL = ANSWERS` for each call that the Rust took: no line
 // of it was written by this port. The file stdin is the list with everything from ` = ` on cut off each line, the file stdout what stands behind ` = `:
 // one `sed` each (`s/ = .*//` and `s/.* = //`).
-ghost use Rattle.std.specs.Prelude.{◌≡◌, ◌≤◌, length};
+#![tactic(auto)]
+
+ghost use Rattle.std.specs.Prelude.{◌≡◌, ◌≤◌, IfOk, length};
 
 mod answers;
 mod calls;
@@ -16,10 +18,12 @@ mod writer;
 use calls::Call;
 use log_file::LogFileWriter;
 use segment_reader::SegmentReader;
+use std::io;
+use std::io::{Read, Write};
 
 // The writer and the reader that the list speaks of, and the size of the reader's image. Both work in the same image: the list turns from one to the
 // other only by opening it.
-#[derive(Drop)]
+#[derive(Clone, Copy)]
 pub struct Desk {
     writer: LogFileWriter,
     reader: SegmentReader,
@@ -56,40 +60,47 @@ fn with_reader(desk: Desk, reader: SegmentReader, size: usize) -> Desk {
 }
 
 // Answers one line.
-fn answer(desk: Desk, image: &mut [u8], staging: &mut [u8], line: &[u8]) -> Desk {
+fn answer<W: Write>(
+    out: &mut W,
+    desk: Desk,
+    image: &mut [u8],
+    staging: &mut [u8],
+    line: &[u8],
+) -> io::Result<Desk> {
     match calls::named(text::word(line, 0)) {
-        Call::Open => with_writer(desk, writer::open_line(image, staging, line)),
+        Call::Open => Ok(with_writer(desk, writer::open_line(out, image, staging, line)?)),
         Call::Writer(call) => {
             let w = desk.writer;
-            with_writer(desk, writer::line(w, call, image, staging, line))
+            Ok(with_writer(desk, writer::line(out, w, call, image, staging, line)?))
         }
         Call::OpenReader => {
             let size = text::unhex(text::word(line, 2), image);
-            with_reader(
+            Ok(with_reader(
                 desk,
-                reader::open_line(text::first(image, size), line),
+                reader::open_line(out, text::first(image, size), line)?,
                 size,
-            )
+            ))
         }
         Call::Reader(call) => {
             let r = desk.reader;
             let size = desk.size;
             let part = text::first(image, size);
-            with_reader(desk, reader::line(r, call, part, line), size)
+            Ok(with_reader(desk, reader::line(out, r, call, part, line)?, size))
         }
         Call::First(call) => {
             let size = text::unhex(text::word(line, 2), image);
-            first::line(call, text::first(image, size), line);
-            desk
+            first::line(out, call, text::first(image, size), line)?;
+            Ok(desk)
         }
         Call::Small(call) => {
-            small::line(call, line);
-            desk
+            small::line(out, call, line)?;
+            Ok(desk)
         }
     }
 }
 
 // Where the line that begins at `at` ends: before its line feed, or at the list's end.
+#[tactic(auto, using(text::proofs::Places::words))]
 fn line_end(list: &[u8], at: usize) -> usize
     requires { at ≤ length list.now }
     ensures { (at ≤ result) × (result ≤ length list.now) }
@@ -98,14 +109,20 @@ fn line_end(list: &[u8], at: usize) -> usize
 }
 
 // Answers line by line.
-fn replay(list: &[u8], image: &mut [u8], staging: &mut [u8]) {
+fn replay<W: Write>(
+    out: &mut W,
+    list: &[u8],
+    image: &mut [u8],
+    staging: &mut [u8],
+) -> io::Result<()> {
     let mut desk = closed();
     let mut at = 0;
     while at < list.len() {
         let end = line_end(list, at);
-        desk = answer(desk, image, staging, &list[at..end]);
+        desk = answer(out, desk, image, staging, &list[at..end])?;
         at = end + 1;
     }
+    Ok(())
 }
 
 // Room for the list.
@@ -115,10 +132,27 @@ fn room() -> [u8; 262144]
     [0; 262144]
 }
 
-fn main() {
+// Reads until the list is full or the input ends, and answers how many bytes it put at the list's start.
+fn read_full<R: Read>(input: &mut R, list: &mut [u8]) -> io::Result<usize>
+    ensures { IfOk result (λ n. n ≤ length list.new) }
+{
+    let mut done = 0;
+    while done < list.len() {
+        let n = input.read(&mut list[done..])?;
+        if n == 0 {
+            break;
+        }
+        done += n;
+    }
+    Ok(done)
+}
+
+fn main(rt: HostRuntime) -> io::Result<()> {
+    let mut out = io::writer(&rt);
     let mut list = room();
-    let n = io::read_full(libc::STDIN_FILENO, &mut list);
+    let mut input = rt.reader();
+    let n = read_full(&mut input, &mut list)?;
     let mut image = [0u8; 256];
     let mut staging = [0u8; 256];
-    replay(&list[..n], &mut image, &mut staging);
+    replay(&mut out, &list[..n], &mut image, &mut staging)
 }

@@ -3,14 +3,15 @@
 use crate::answers;
 use crate::answers::Reply;
 use crate::calls::ReaderCall;
-use libc::STDOUT_FILENO;
 use segment_reader::{
     ChunkStep, CrcAnswer, EntryAnswer, EntryStep, Moment, OpenAnswer, ReadAnswer, ReadChunkResult,
     ReadStep, SegmentReader, SkipAnswer, SkipStep, WholeAnswer, WholeStep,
 };
+use std::io;
+use std::io::Write;
 
 // The reader behind a call, and the numbers of its answer.
-#[derive(Drop)]
+#[derive(Clone, Copy)]
 pub struct Turn {
     reader: SegmentReader,
     reply: Reply,
@@ -23,32 +24,43 @@ pub(crate) fn closed(image: &[u8]) -> SegmentReader {
 }
 
 // Opens a reader over the image; the line's first word is the file id.
-pub(crate) fn open_line(image: &[u8], line: &[u8]) -> SegmentReader {
+pub(crate) fn open_line<W: Write>(
+    out: &mut W,
+    image: &[u8],
+    line: &[u8],
+) -> io::Result<SegmentReader> {
     let opening = SegmentReader::new(image, answers::number(line, 1));
     let reader = opening.reader;
     let answer = opening.answer;
     match answer {
-        OpenAnswer::Opened => put_turn(Turn {
-            reader,
-            reply: answers::words(0, 0, 0, 0),
-        }),
-        OpenAnswer::Refused(no) => {
-            io::print_decimal(STDOUT_FILENO, no as u64);
-        }
+        OpenAnswer::Opened => put_turn(
+            out,
+            Turn {
+                reader,
+                reply: answers::words(0, 0, 0, 0),
+            },
+        )?,
+        OpenAnswer::Refused(no) => write!(out, "{no}")?,
     }
-    answers::end_line();
-    reader
+    answers::end_line(out)?;
+    Ok(reader)
 }
 
-pub(crate) fn line(r: SegmentReader, call: ReaderCall, image: &[u8], line: &[u8]) -> SegmentReader {
+pub(crate) fn line<W: Write>(
+    out: &mut W,
+    r: SegmentReader,
+    call: ReaderCall,
+    image: &[u8],
+    line: &[u8],
+) -> io::Result<SegmentReader> {
     let turn = called(r, call, image, line);
     let reader = turn.reader;
-    put_turn(turn);
+    put_turn(out, turn)?;
     if let ReaderCall::Data = call {
-        answers::put_bytes(r.read(image, answers::number(line, 1)));
+        answers::put_bytes(out, r.read(image, answers::number(line, 1)))?;
     }
-    answers::end_line();
-    reader
+    answers::end_line(out)?;
+    Ok(reader)
 }
 
 fn called(r: SegmentReader, call: ReaderCall, image: &[u8], line: &[u8]) -> Turn {
@@ -79,14 +91,14 @@ fn owed(m: Moment) -> u64 {
     }
 }
 
-fn put_turn(turn: Turn) {
+fn put_turn<W: Write>(out: &mut W, turn: Turn) -> io::Result<()> {
     let reader = turn.reader;
     let reply = turn.reply;
     let moment = reader.moment;
-    answers::put_reply(reply);
-    answers::put(reader.place);
-    answers::put(reader.valid_until);
-    answers::put(owed(moment));
+    answers::put_reply(out, reply)?;
+    answers::put(out, reader.place)?;
+    answers::put(out, reader.valid_until)?;
+    answers::put(out, owed(moment))
 }
 
 pub(crate) fn entry_reply(answer: EntryAnswer) -> Reply {

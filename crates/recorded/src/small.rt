@@ -2,18 +2,17 @@
 use crate::answers;
 use crate::calls::SmallCall;
 use entry::{Deserialized, LogPosition, Serialized};
-use libc::STDOUT_FILENO;
+use std::io;
+use std::io::Write;
 
-pub(crate) fn line(call: SmallCall, line: &[u8]) {
+pub(crate) fn line<W: Write>(out: &mut W, call: SmallCall, line: &[u8]) -> io::Result<()> {
     match call {
-        SmallCall::Put => put(line),
-        SmallCall::Get => get(line),
-        SmallCall::Sum => sum(line),
-        SmallCall::Unknown => {
-            io::write_all(STDOUT_FILENO, b"no such call");
-        }
+        SmallCall::Put => put(out, line)?,
+        SmallCall::Get => get(out, line)?,
+        SmallCall::Sum => sum(out, line)?,
+        SmallCall::Unknown => write!(out, "no such call")?,
     }
-    answers::end_line();
+    answers::end_line(out)
 }
 
 fn stored(answer: Serialized) -> u64 {
@@ -24,30 +23,31 @@ fn stored(answer: Serialized) -> u64 {
 }
 
 // The 16 bytes of a position.
-fn put(line: &[u8]) {
+fn put<W: Write>(out: &mut W, line: &[u8]) -> io::Result<()> {
     let position = LogPosition {
         file_id: answers::number(line, 1),
         offset: answers::number(line, 2),
     };
     let mut bytes = [0u8; 16];
     let no = stored(position.serialize_to(&mut bytes));
-    io::print_decimal(STDOUT_FILENO, no);
-    answers::put_bytes(&bytes);
+    write!(out, "{no}")?;
+    answers::put_bytes(out, &bytes)
 }
 
-fn put_position(no: u8, position: LogPosition) {
-    io::print_decimal(STDOUT_FILENO, no as u64);
-    answers::put(position.file_id);
-    answers::put(position.offset);
+fn put_position<W: Write>(out: &mut W, no: u8, position: LogPosition) -> io::Result<()> {
+    write!(out, "{no}")?;
+    answers::put(out, position.file_id)?;
+    answers::put(out, position.offset)
 }
 
 // The position that bytes stand for.
-fn get(line: &[u8]) {
+fn get<W: Write>(out: &mut W, line: &[u8]) -> io::Result<()> {
     let mut bytes = [0u8; 32];
     let n = text::unhex(text::word(line, 1), &mut bytes);
     match LogPosition::deserialize_from(text::first(&bytes, n)) {
-        Deserialized::Position(position) => put_position(0, position),
+        Deserialized::Position(position) => put_position(out, 0, position),
         Deserialized::Refused(no) => put_position(
+            out,
             no,
             LogPosition {
                 file_id: 0,
@@ -58,9 +58,9 @@ fn get(line: &[u8]) {
 }
 
 // A finished sum, continued over bytes.
-fn sum(line: &[u8]) {
+fn sum<W: Write>(out: &mut W, line: &[u8]) -> io::Result<()> {
     let mut bytes = [0u8; 128];
     let n = text::unhex(text::word(line, 2), &mut bytes);
     let sum = crc32c::append(answers::number32(line, 1), text::first(&bytes, n));
-    io::print_decimal(STDOUT_FILENO, sum as u64);
+    write!(out, "{sum}")
 }

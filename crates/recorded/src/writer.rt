@@ -6,9 +6,11 @@ use crate::calls::WriterCall;
 use buffered::seek::{Landing, SeekFrom};
 use log_file::entries::{CommitAnswer, Committed, FinishAnswer, Finished, WriteAnswer, Written};
 use log_file::{Answer, Answered, LastId, LogFileWriter, entries, file, opening};
+use std::io;
+use std::io::Write;
 
 // The writer behind a call, and the numbers of its answer.
-#[derive(Drop)]
+#[derive(Clone, Copy)]
 pub struct Turn {
     writer: LogFileWriter,
     reply: Reply,
@@ -22,46 +24,70 @@ pub(crate) fn closed(image: &mut [u8], staging: &mut [u8]) -> LogFileWriter {
 
 // ---- lines: the buffers are lent at the sizes that the opening names
 
-pub(crate) fn open_line(image: &mut [u8], staging: &mut [u8], line: &[u8]) -> LogFileWriter {
+pub(crate) fn open_line<W: Write>(
+    out: &mut W,
+    image: &mut [u8],
+    staging: &mut [u8],
+    line: &[u8],
+) -> io::Result<LogFileWriter> {
     let size = lists::smaller(answers::size(line, 7), image.len());
     let capacity = lists::smaller(answers::size(line, 8), staging.len());
-    loaded(&mut image[..size], &mut staging[..capacity], line)
+    loaded(out, &mut image[..size], &mut staging[..capacity], line)
 }
 
-pub(crate) fn line(
+pub(crate) fn line<W: Write>(
+    out: &mut W,
     w: LogFileWriter,
     call: WriterCall,
     image: &mut [u8],
     staging: &mut [u8],
     line: &[u8],
-) -> LogFileWriter {
+) -> io::Result<LogFileWriter> {
     let size = lists::smaller(w.size, image.len());
     let capacity = lists::smaller(w.capacity, staging.len());
-    answered(w, call, &mut image[..size], &mut staging[..capacity], line)
+    answered(
+        out,
+        w,
+        call,
+        &mut image[..size],
+        &mut staging[..capacity],
+        line,
+    )
 }
 
 // The file's bytes first: the image's bytes past them do not matter.
-fn loaded(image: &mut [u8], staging: &mut [u8], line: &[u8]) -> LogFileWriter {
+fn loaded<W: Write>(
+    out: &mut W,
+    image: &mut [u8],
+    staging: &mut [u8],
+    line: &[u8],
+) -> io::Result<LogFileWriter> {
     text::unhex(text::word(line, 10), image);
-    opened(image, staging, line)
+    opened(out, image, staging, line)
 }
 
-fn opened(image: &mut [u8], staging: &mut [u8], line: &[u8]) -> LogFileWriter {
+fn opened<W: Write>(
+    out: &mut W,
+    image: &mut [u8],
+    staging: &mut [u8],
+    line: &[u8],
+) -> io::Result<LogFileWriter> {
     let turn = open(image, staging, line);
-    put_turn(turn, image, staging);
-    turn.writer
+    put_turn(out, turn, image, staging)?;
+    Ok(turn.writer)
 }
 
-fn answered(
+fn answered<W: Write>(
+    out: &mut W,
     w: LogFileWriter,
     call: WriterCall,
     image: &mut [u8],
     staging: &mut [u8],
     line: &[u8],
-) -> LogFileWriter {
+) -> io::Result<LogFileWriter> {
     let turn = called(w, call, image, staging, line);
-    put_turn(turn, image, staging);
-    turn.writer
+    put_turn(out, turn, image, staging)?;
+    Ok(turn.writer)
 }
 
 // ---- the calls
@@ -195,29 +221,29 @@ fn segment_sum(w: LogFileWriter, image: &[u8], staging: &[u8]) -> u32 {
     crc32c::append(crc32c::append(0, below), staged)
 }
 
-fn put_last(last: LastId) {
+fn put_last<W: Write>(out: &mut W, last: LastId) -> io::Result<()> {
     match last {
         LastId::Nothing => {
-            answers::put(0);
-            answers::put(0);
+            answers::put(out, 0)?;
+            answers::put(out, 0)
         }
         LastId::Of(id) => {
-            answers::put(1);
-            answers::put(id);
+            answers::put(out, 1)?;
+            answers::put(out, id)
         }
     }
 }
 
-fn put_turn(turn: Turn, image: &[u8], staging: &[u8]) {
+fn put_turn<W: Write>(out: &mut W, turn: Turn, image: &[u8], staging: &[u8]) -> io::Result<()> {
     let w = turn.writer;
     let reply = turn.reply;
     let last = w.last;
-    answers::put_reply(reply);
-    answers::put(w.file.position as u64);
-    answers::put(w.file.staged as u64);
-    answers::put(w.file.length as u64);
-    answers::put(w.file.synchronized as u64);
-    put_last(last);
-    answers::put(segment_sum(w, image, staging) as u64);
-    answers::end_line();
+    answers::put_reply(out, reply)?;
+    answers::put(out, w.file.position as u64)?;
+    answers::put(out, w.file.staged as u64)?;
+    answers::put(out, w.file.length as u64)?;
+    answers::put(out, w.file.synchronized as u64)?;
+    put_last(out, last)?;
+    answers::put(out, segment_sum(w, image, staging) as u64)?;
+    answers::end_line(out)
 }
