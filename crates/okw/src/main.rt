@@ -26,7 +26,7 @@ use arguments::Command;
 use outcome::Outcome;
 use std::fs::File;
 use std::io;
-use std::io::{BufWriter, Write};
+use std::io::Write;
 use std::rt::{Env, Files};
 
 // The largest segment.
@@ -53,8 +53,7 @@ fn run(
 
 fn main(rt: HostRuntime) -> io::Result<()> {
     let mut image = room();
-    let mut out = BufWriter::new(rt.alloc(), io::writer(&rt))?;
+    let mut out = io::writer(&rt);
     let ended = run(&rt, &mut out, arguments::asked(&rt), &mut image)?;
-    outcome::put_last(&rt, &mut out, ended)?;
-    out.flush()
+    outcome::put_last(&rt, &mut out, ended)
 }
