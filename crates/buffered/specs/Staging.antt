@@ -1,6 +1,6 @@
 -- Staging (document 01, "Staging, per write"): the image, the staging in front of it, and the numbers that go with them. Every definition says each
--- byte of both buffers. The laws are in proofs/StagingLaws.
-use Rattle.std.specs.Prelude.{ℕ, zero, suc, ◌+◌, ◌-◌, ◌≤◌, ◌≡◌, min, max, cond, List, [], ◌∷◌, ◌++◌, length, take, drop, leb, ltb}
+-- byte of both buffers. The laws are in `StagingLaws`.
+use Rattle.std.specs.Prelude.{ℕ, zero, suc, ◌+◌, ◌-◌, ◌≤◌, min, max, cond, List, [], ◌∷◌, ◌++◌, length, take, drop, leb, ltb}
 use Rattle.lists.specs.Lay.{lay}
 use Rattle.buffered.specs.declared.Buffered.{Buffered}
 
@@ -107,26 +107,3 @@ synchronized s t = cond (leb t s.file.synchronized) s (marked (cond (ltb s.file.
 pub record Room (s : Store) (n : ℕ) : Type 0 where
   pub image : s.file.position + s.file.staged + n ≤ length s.image
   pub staging : s.file.staged ≤ length s.staging
-
--- ---- a sound store with an image of n bytes, whose logical segment is bs
-
-pub record Reads (n : ℕ) (s : Store) (bs : List ℕ) : Type 0 where
-  pub size : length s.image ≡ n
-  pub room : s.file.position + s.file.staged ≤ n
-  pub fits : s.file.staged ≤ length s.staging
-  pub sound : s.file.synchronized ≤ s.file.position
-  pub under : s.file.position ≤ s.file.length
-  pub top : s.file.length ≤ n
-  pub same : logical s ≡ bs
-
--- ---- the buffers keep their lengths, and the file length never shrinks
-
-pub record Sizes (s t : Store) : Type 0 where
-  pub image : length t.image ≡ length s.image
-  pub staging : length t.staging ≡ length s.staging
-  pub file : s.file.length ≤ t.file.length
-
--- a write, or a flush, leaves the synchronized number too
-pub record Wrote (s t : Store) : Type 0 where
-  pub sizes : Sizes s t
-  pub synchronized : t.file.synchronized ≡ s.file.synchronized

@@ -3,7 +3,7 @@ use Rattle.std.specs.Prelude.{ℕ, ◌^◌, ◌<◌, ◌≤◌, ◌≡◌, refl,
 use Rattle.std.proofs.Common.{arith, ap, sym, ◌∙◌, append_assoc, length-append, take_at, drop_at, le-ltb}
 use Rattle.lists.specs.Answers.{accepted}
 use Rattle.little_endian.specs.LittleEndian.{le, number}
-use Rattle.little_endian.proofs.LittleEndianLaws.{length-le, from_le-le}
+use Rattle.little_endian.specs.LittleEndianLaws.{length-le, from_le-le}
 use Rattle.entry.specs.declared.LogPosition.{LogPosition}
 use Rattle.entry.specs.declared.Serialized.{Serialized}
 use Rattle.entry.specs.declared.Serialized.TheVariants.{Stored, Refused}

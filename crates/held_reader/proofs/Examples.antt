@@ -97,7 +97,7 @@ module _ (p : ℕ × ℕ) where
     pub not-further : HeldOpenAllows 1 lent (record { reader = held lent (state 6 Between); answer = IsOpened }) → ⊥
     -- another state than the one given; a copy of the bytes elsewhere
     pub not-other : HeldNewAllows lent fresh (held lent in_entry) → ⊥
-    pub not-copied : HeldNewAllows lent fresh (held (record { ref_ptr = (p.0 + 1, p.1); now = bytes }) fresh) → ⊥
+    pub not-copied : (q : ℕ × ℕ) → (q ≡ p → ⊥) → HeldNewAllows lent fresh (held (record { ref_ptr = q; now = bytes }) fresh) → ⊥
     -- the state that it had; the image lost
     pub not-stayed : HeldWithStateAllows (held lent fresh) in_entry (held lent fresh) → ⊥
     pub not-emptied : HeldWithStateAllows (held lent fresh) in_entry (held (record { ref_ptr = p; now = [] }) in_entry) → ⊥
@@ -126,7 +126,7 @@ module _ (p : ℕ × ℕ) where
         not-refused = λ h. let e : told [] ≡ refusal 1 = replies opens.1 h.1 in let z : ◌≡◌ {A = ℕ} 0 1 = cc in absurd (omega arith);
         not-further = λ h. let e : ◌≡◌ {A = ℕ} 5 6 = ap (λ (k : SegmentReader). k.place) (states opens.1 h.1) in absurd (omega arith);
         not-other = λ h. let e : ◌≡◌ {A = ℕ} 14 5 = ap (λ (k : Reader). k.state.place) h in absurd (omega arith);
-        not-copied = λ h. let e : p.0 + 1 ≡ p.0 = ap (λ (k : Reader). k.image.ref_ptr.0) h in absurd (omega arith);
+        not-copied = λ q d h. d (ap (λ (k : Reader). k.image.ref_ptr) h);
         not-stayed = λ h. let e : ◌≡◌ {A = ℕ} 5 14 = ap (λ (k : Reader). k.state.place) h in absurd (omega arith);
         not-emptied = λ h. let e : ◌≡◌ {A = ℕ} 0 0x6F = ap (λ (k : Reader). get_or k.image.now 0 0) h in absurd (omega arith);
         not-nothing = λ h. let e : ◌≡◌ {A = ℕ} 7 0 = ap (λ (k : List ℕ). get_or k 0 0) (two_bytes ∙ sym h) in absurd (omega arith);

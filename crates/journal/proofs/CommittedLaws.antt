@@ -16,7 +16,7 @@ use Rattle.log_file.specs.HistoryLaws.{idle-nothing}
 use Rattle.log_file.specs.HistoryRanges.{Argued, AllRanged, fresh-ranged, next-ranged}
 use Rattle.lists.specs.All.{All}
 use Rattle.log_file.specs.Shows.{Shows}
-use Rattle.log_file.proofs.ShowsLaws.{still-shows, flushed-image}
+use Rattle.log_file.specs.ShowsLaws.{still-shows, flushed-image}
 use Rattle.journal.specs.Step.{call_of}
 use Rattle.journal.specs.Stories.{calls, Seen}
 use Rattle.journal.specs.Demand3.{Given}

@@ -7,7 +7,7 @@ use Rattle.lists.specs.Answers.{accepted}
 use Rattle.entry.specs.FormatLaws.{length-header}
 use Rattle.buffered.specs.declared.seek.SeekFrom.TheVariants.{Start, End, Current}
 use Rattle.buffered.specs.Staging.{logical}
-use Rattle.buffered.proofs.StagingLaws.{same-position}
+use Rattle.buffered.specs.StagingLaws.{same-position}
 use Rattle.log_file.specs.State.{Machine, store_of}
 use Rattle.log_file.specs.StateLaws.{facts-of}
 use Rattle.log_file.specs.Calls.{Call, begin_entry, begin_chunk, write, finish, commit, rollback, recycle, flush, synchronize, landing, called}
@@ -16,7 +16,8 @@ use Rattle.log_file.specs.Opening.{Terms, padded, open_refusal, opened}
 use Rattle.log_file.specs.History.{a_chunk, History, fresh, with_open, causes, bytes, tells as tellings, told, next, tellable}
 use Rattle.log_file.specs.HistoryLaws.{length-chunk, write-joined, write-none, segment-none}
 use Rattle.log_file.specs.Shows.{Shows}
-use Rattle.log_file.proofs.ShowsLaws.{same_answer, still-shows}
+use Rattle.log_file.specs.ShowsLaws.{still-shows}
+use Rattle.log_file.proofs.ShowsTells.{same_answer}
 use Rattle.journal.specs.Stories.{Heard, calls, Part, left_out, piece, matching, part, Canon, canon_at, canon_from, canon, seen, given, Story, ends, tells, story_at, story, tale, EachTold}
 use Rattle.journal.specs.Demand3.{Given, InRange, Program, heard, ours, opening_told, Follows}
 

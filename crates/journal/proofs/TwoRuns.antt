@@ -12,7 +12,7 @@ use Rattle.log_file.specs.Promises.{answered_as}
 use Rattle.log_file.specs.Opening.{Terms}
 use Rattle.log_file.specs.History.{History, fresh}
 use Rattle.log_file.specs.Shows.{Shows}
-use Rattle.log_file.proofs.ShowsLaws.{fresh-shows}
+use Rattle.log_file.specs.ShowsLaws.{fresh-shows}
 use Rattle.journal.specs.Step.{call_of}
 use Rattle.journal.specs.Stories.{calls, canon, answers_of, tale}
 use Rattle.journal.specs.Demand3.{Given, InRange, Program, heard, story_of, ours, opening_told, Follows, TwoRunHalf, FormatHalf, Demand3}

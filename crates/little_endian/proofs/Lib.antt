@@ -1,3 +1,3 @@
--- Laws of the definitions of specs/, and those of them that code is proved by.
-pub mod LittleEndianLaws
+-- Laws of a number read at a place, and those of them that code is proved by.
+pub mod NumbersRead
 pub mod Places

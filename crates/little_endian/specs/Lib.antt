@@ -1,2 +1,3 @@
--- Numbers as bytes and back: the definitions. Their laws are in proofs/LittleEndianLaws.
+-- Numbers as bytes and back: the definitions, then their laws.
 pub mod LittleEndian
+pub mod LittleEndianLaws

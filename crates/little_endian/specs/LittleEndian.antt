@@ -1,6 +1,6 @@
 -- Numbers as bytes, the low byte first (document 01, "Segment bytes": numbers are little-endian). Total: of a number that does not fit, the low
--- bytes; of bytes past a list's end, zeros. The laws are in proofs/LittleEndianLaws.
-use Rattle.std.specs.Prelude.{List, [], ◌∷◌, ℕ, zero, suc, ◌+◌, ◌*◌, ◌/◌, ◌%◌, ◌<◌, length, get_or, take, drop}
+-- bytes; of bytes past a list's end, zeros. The laws are in `LittleEndianLaws`.
+use Rattle.std.specs.Prelude.{List, [], ◌∷◌, ℕ, zero, suc, ◌+◌, ◌*◌, ◌/◌, ◌%◌, take, drop}
 
 -- the k bytes of n
 unfoldable pub le : ℕ → ℕ → List ℕ
@@ -15,7 +15,3 @@ from_le (b ∷ bs) = from_le bs * 256 + b
 -- the number in the k bytes at the place p
 unfoldable pub number : ℕ → List ℕ → ℕ → ℕ
 number k image p = from_le (take k (drop p image))
-
--- every element is a byte
-abbrev pub Bytes : List ℕ → Type 0
-Bytes s = (i : ℕ) → i < length s → get_or s i 0 < 256

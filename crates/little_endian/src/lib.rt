@@ -1,4 +1,4 @@
-// internal: numbers of 4 and 8 bytes, the low byte first. What `le` and `from_le` say of any width is proved once, in proofs/LittleEndianLaws.
+// internal: numbers of 4 and 8 bytes, the low byte first. What `le` and `from_le` say of any width is proved once, in specs/LittleEndianLaws.
 #![tactic(auto)]
 
 ghost use Rattle.std.specs.Prelude.{◌≡◌, ◌+◌, ◌≤◌, ◌<◌, length};

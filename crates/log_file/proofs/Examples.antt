@@ -19,7 +19,8 @@ use Rattle.log_file.specs.Opening.{Terms, padded, open_refusal, prepared, unhead
 use Rattle.log_file.specs.History
 use Rattle.log_file.specs.History.{History, begun, opening, bytes, causes, tells, told, next, tellable}
 use Rattle.log_file.specs.Shows.{Shows}
-use Rattle.log_file.proofs.ShowsLaws.{same_answer, still-shows, fresh-shows}
+use Rattle.log_file.proofs.ShowsTells.{same_answer}
+use Rattle.log_file.specs.ShowsLaws.{still-shows, fresh-shows}
 
 -- id 1, no version info
 abbrev pub terms : (preallocate : ℕ) → Terms

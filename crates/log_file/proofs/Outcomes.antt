@@ -1,6 +1,6 @@
 -- How a call comes out, over plain variables: refused, or accepted with what it did.
-use Rattle.std.specs.Prelude.{ℕ, zero, suc}
-use Rattle.std.proofs.Common.{◌≡◌, refl}
+use Prim.Native.Nat.{ℕ, zero, suc}
+use mathlib.Core.Path.{◌≡◌, refl}
 use mathlib.Core.List.{List}
 use Rattle.lists.specs.Answers.{accepted, refused, reply, obey}
 use Rattle.buffered.specs.declared.Buffered.{Buffered}

@@ -10,9 +10,10 @@ use borrow.Author.Tests.{leb-true, le-leb, ltb-false, not-false}
 use Rattle.lists.specs.Answers.{number_of, Check, ◌⇒◌, first}
 use Rattle.lists.specs.AnswersLaws.{Clear, clear, Every}
 use Rattle.lists.specs.ChoiceLaws.{obeyed, refusal-keeps, number-reply}
-use Rattle.little_endian.proofs.LittleEndianLaws.{length-le}
-use Rattle.buffered.specs.Staging.{Store, logical, logical_position, back_to, Reads, Sizes}
-use Rattle.buffered.proofs.StagingLaws.{same-position, flush-reads, sync-reads, written_all-reads, back-reads, flush-wrote, written_all-wrote, back-sizes, sync-sizes, sizes-none, sizes-both}
+use Rattle.little_endian.specs.LittleEndianLaws.{length-le}
+use Rattle.buffered.specs.Staging.{Store, logical, logical_position, back_to}
+use Rattle.buffered.specs.StagingLaws.{Reads, Sizes, same-position, flush-reads, sync-reads, back-reads, flush-wrote, written_all-wrote, back-sizes, sync-sizes, sizes-none, sizes-both}
+use Rattle.buffered.proofs.WrittenReads.{written_all-reads}
 use Rattle.log_file.specs.declared.Moment.{Moment}
 use Rattle.log_file.specs.declared.Moment.TheVariants.{Idle, InEntry, InChunk}
 use Rattle.log_file.specs.declared.LogFileWriter.{LogFileWriter}

@@ -5,7 +5,7 @@ use mathlib.Core.List.{List, [], ◌∷◌, ◌++◌, append_assoc, append-nil, 
 use Rattle.std.proofs.Math.Seq.{take-nil}
 use Rattle.lists.specs.TakeLaws.{take-append}
 use Rattle.little_endian.specs.LittleEndian.{le}
-use Rattle.little_endian.proofs.LittleEndianLaws.{length-le}
+use Rattle.little_endian.specs.LittleEndianLaws.{length-le}
 use Rattle.crc32c.specs.Crc.{crc_append}
 use Rattle.crc32c.specs.CrcLaws.{crc_append-append}
 use Rattle.entry.specs.Format.{header, covered, chunk_sum, chunk, Entry, entry, segment}

@@ -13,3 +13,6 @@ pub mod History
 pub mod HistoryLaws
 pub mod HistoryRanges
 pub mod Shows
+pub mod ShowsAnswers
+pub mod ShowsNext
+pub mod ShowsLaws

@@ -13,8 +13,9 @@ use Rattle.lists.specs.AnswersLaws.{clear}
 use Rattle.lists.specs.ChoiceLaws.{refusal-keeps, number-reply}
 use Rattle.entry.specs.Format.{header, largest_image}
 use Rattle.entry.specs.FormatLaws.{length-header}
-use Rattle.buffered.specs.Staging.{logical, written_all, Reads}
-use Rattle.buffered.proofs.StagingLaws.{reads-itself, flush-reads, written_all-reads, sizes-both, flush-wrote, written_all-wrote}
+use Rattle.buffered.specs.Staging.{logical, written_all}
+use Rattle.buffered.specs.StagingLaws.{Reads, reads-itself, flush-reads, sizes-both, flush-wrote, written_all-wrote}
+use Rattle.buffered.proofs.WrittenReads.{written_all-reads}
 use Rattle.log_file.specs.State.{machine, ruled, valid}
 use Rattle.log_file.specs.StateLaws.{Valid, valid-by}
 use Rattle.log_file.specs.Calls.{Call, after, refusal, heading, called}

@@ -6,7 +6,7 @@ use native.Mathlib.Omega.{arith}
 use lib.ListN.{length, get_or}
 use mir.Syntax.{w8}
 use mir.Val.{Fits}
-use Rattle.little_endian.specs.LittleEndian.{Bytes}
+use Rattle.little_endian.specs.LittleEndianLaws.{Bytes}
 use Rattle.segment_reader.specs.Reading.{Part, in_header, in_data, in_sum, Skipped, at, broken, skip, Whole, complete, aborted, cut_off, wrong_sum, whole, Next, seek, pass, after_cut, left, Lead, entry, none, lead}
 use Rattle.segment_reader.specs.ReadingLaws.{nothing-stands, lead-says, skip-other}
 use Rattle.segment_reader.specs.State.{leaving, start_of}

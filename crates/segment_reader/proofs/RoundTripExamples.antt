@@ -10,7 +10,8 @@ use lib.Dec.{ltb, lit<, lit≤}
 use borrow.Author.Tests.{ltb-true}
 use Rattle.lists.specs.Stream.{part}
 use Rattle.lists.specs.Walk.{walk, around}
-use Rattle.little_endian.specs.LittleEndian.{le, from_le, number, Bytes}
+use Rattle.little_endian.specs.LittleEndian.{le, from_le, number}
+use Rattle.little_endian.specs.LittleEndianLaws.{Bytes}
 use Rattle.crc32c.specs.Crc.{bit_step, steps, byte_step, update, crc_append}
 use Rattle.entry.specs.Format.{header, covered, chunk_sum, chunk, Entry, entry, segment}
 use Rattle.segment_reader.specs.Reading.{standing, skip_turn, skip, complete, also, whole_turn, whole, chunks_at, left, lead, opened}

@@ -4,7 +4,7 @@ use Rattle.std.proofs.Math.Bool.{true, false, cond}
 use mathlib.Core.List.{List, [], ◌∷◌}
 use Rattle.std.proofs.Math.Path.{◌≡◌, refl, ap}
 use Rattle.std.proofs.Common.{arith}
-use Rattle.little_endian.specs.LittleEndian.{Bytes}
+use Rattle.little_endian.specs.LittleEndianLaws.{Bytes}
 use Rattle.segment_reader.specs.Reading.{Skipped, at, broken, Lead, entry, none}
 use Rattle.segment_reader.specs.State.{fit, leaving, start_of, holding, open_of}
 use Rattle.segment_reader.specs.Calls.{Reply, told, refusal, step, new, entry_met, entry_past, entry_from, read_entry, chunk_from, read_chunk, read_in, read, skip_in, skip_remaining, whole_from, read_all_chunks, Call, next_entry, next_chunk, crc_check, skip_rest, whole_entry, data_read, read_by, after}

@@ -7,8 +7,9 @@ use native.Mathlib.Omega.{arith}
 use Rattle.std.proofs.Math.ListN.{get_or-eq_default}
 use Rattle.std.proofs.Common.{le-leb, eq-eqb, leb-true, leb-false}
 use Rattle.lists.specs.Walk.{Keeps, around-ind}
-use Rattle.little_endian.specs.LittleEndian.{number, Bytes}
-use Rattle.little_endian.proofs.LittleEndianLaws.{number-four}
+use Rattle.little_endian.specs.LittleEndian.{number}
+use Rattle.little_endian.specs.LittleEndianLaws.{Bytes}
+use Rattle.little_endian.proofs.NumbersRead.{number-four}
 use Rattle.entry.specs.Format.{largest_image}
 use Rattle.segment_reader.specs.Reading.{Mark, chunk, cut, close, other, standing, Part, in_header, in_data, in_sum, header_cut, fits, matches, Skipped, at, broken, skip_turn, skip, Whole, complete, aborted, cut_off, wrong_sum, also, whole_turn, whole, Next, seek, pass, after_cut, left, Lead, entry, none, lead, Opened, opens, refuses, opened}
 use Rattle.segment_reader.specs.ReadingLaws.{says, close-inside, lead-says, skip-forward, chunk_turn, whole-forward}

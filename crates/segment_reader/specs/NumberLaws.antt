@@ -3,8 +3,8 @@ use Rattle.std.specs.Prelude.{◌≡◌, List, ◌++◌, ℕ, ◌+◌, ◌*◌, 
 use Rattle.std.proofs.Math.Path.{ap}
 use Rattle.std.proofs.Common.{◌∙◌, arith, get_or-drop, get_or-take}
 use Rattle.lists.specs.Stream.{part, here, length_part}
-use Rattle.little_endian.specs.LittleEndian.{le, from_le, number, Bytes}
-use Rattle.little_endian.proofs.LittleEndianLaws.{length-le, from_le-le, le-from_le, from_le-lt}
+use Rattle.little_endian.specs.LittleEndian.{le, from_le, number}
+use Rattle.little_endian.specs.LittleEndianLaws.{Bytes, length-le, from_le-le, le-from_le, from_le-lt}
 
 module _ (image : List ℕ) (p : ℕ) where
   pub number-here : (k n : ℕ) (rest : List ℕ) → n < 2 ^ (8 * k) → drop p image ≡ le k n ++ rest → number k image p ≡ n

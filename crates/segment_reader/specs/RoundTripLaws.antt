@@ -10,7 +10,7 @@ use native.Mathlib.Omega.{arith}
 use Rattle.std.proofs.Math.ListN.{length, get_or, drop, length-append}
 use Rattle.lists.specs.Stream.{first, size, here, past}
 use Rattle.little_endian.specs.LittleEndian.{le, number}
-use Rattle.little_endian.proofs.LittleEndianLaws.{length-le}
+use Rattle.little_endian.specs.LittleEndianLaws.{length-le}
 use Rattle.entry.specs.Format.{Entry, chunk_sum, chunk as chunk_bytes, entry as entry_bytes}
 use Rattle.entry.specs.FormatLaws.{chunk_sum-lt, length-chunk, length-entry}
 use Rattle.segment_reader.specs.Reading.{chunk, close, other, standing, chunk_data, Whole, complete, also, whole, chunks_at, left, entry, lead}

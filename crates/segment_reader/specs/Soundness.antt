@@ -9,7 +9,8 @@ use native.Mathlib.Omega.{arith}
 use Rattle.std.proofs.Math.ListN.{length, drop, length-append}
 use Rattle.lists.specs.Stream.{part, joined, starts, length_part}
 use Rattle.lists.specs.Walk.{Keeps, around-ind}
-use Rattle.little_endian.specs.LittleEndian.{le, number, Bytes}
+use Rattle.little_endian.specs.LittleEndian.{le, number}
+use Rattle.little_endian.specs.LittleEndianLaws.{Bytes}
 use Rattle.entry.specs.Format.{Entry, chunk_sum, chunk as chunk_bytes, entry as entry_bytes}
 use Rattle.entry.specs.FormatLaws.{length-chunk, length-entry}
 use Rattle.segment_reader.specs.Reading.{Mark, chunk, close, cut, other, standing, chunk_data, fits, matches, Whole, complete, aborted, cut_off}

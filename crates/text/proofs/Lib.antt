@@ -3,3 +3,4 @@ pub mod Places
 pub mod Sames
 pub mod Numbers
 pub mod Pairs
+pub mod Ranges

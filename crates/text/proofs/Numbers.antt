@@ -1,12 +1,21 @@
 -- A number read digit by digit: what one byte more makes of it, and where it ends.
-use Rattle.std.proofs.Common.{◌≡◌, refl, sym, ap, ◌∙◌, Bool, true, false, List, [], ◌∷◌, ℕ, suc, ◌+◌, ◌-◌, ◌*◌, ◌^◌, ◌≤◌, ◌<◌, add_assoc, add-mul, mul_assoc, zero-mul, zero-add, le-mul_of_pos_right, add-one, arith, length, get_or, drop, drop_of_length-le, drop-cons, ltb, lit<, lt-ltb, le-ltb, ltb-true, ltb-false}
-use Rattle.std.proofs.Math.Bool.{and-false}
-use Rattle.std.proofs.Math.Option.{Option, none, some}
-use Rattle.std.proofs.Math.Nat.{pow-succ', one-le-pow}
-use Rattle.text.specs.Text.{is_digit, all_digits, value, decimal, number_as}
+use mathlib.Core.Path.{◌≡◌, refl, sym, ap, ◌∙◌}
+use mathlib.Core.Bool.{Bool, true, false, and-false}
+use mathlib.Core.List.{List, [], ◌∷◌}
+use mathlib.Core.Option.{Option, none, some}
+use Prim.Native.Nat.{ℕ, suc, ◌+◌, ◌-◌, ◌*◌, ◌^◌, ◌≤◌, ◌<◌}
+use native.Mathlib.Nat.{add_assoc, add-mul, mul_assoc, pow-succ', zero-mul, zero-add, le-mul_of_pos_right, one-le-pow}
+use native.Mathlib.Numerals.{add-one}
+use native.Mathlib.Omega.{arith}
+use lib.ListN.{length, get_or, drop, drop_of_length-le}
+use lib.Seq.{drop-cons}
+use lib.Dec.{ltb, lit<}
+use borrow.Author.Tests.{lt-ltb, le-ltb, ltb-true, ltb-false}
+use Rattle.text.specs.Text.{is_digit, all_digits, value, decimal, number_as, or_zero}
 use Rattle.text.specs.declared.Number.{Number}
 use Rattle.text.specs.declared.Number.TheVariants.{Of, Not}
 use Rattle.text.specs.Digits.{decimal_from}
+use Rattle.text.proofs.Ranges.{digit, no_digit}
 
 -- ---- a digit more
 
@@ -36,6 +45,17 @@ unfolding decimal_from all_digits value
 from_nothing n h =
     let e : n * 10 ^ 0 + 0 ≡ n = omega arith in
     rw (e, lt-ltb n (2 ^ 64) h)
+
+-- ---- what `with_digit` answers
+
+pub not_digit : (n c : ℕ) → (48 ≤ c → c ≤ 57 → ⊥) → none ≡ decimal_from n (c ∷ [])
+not_digit n c f = from-other n c [] (no_digit c f)
+
+pub one-too-large : (n c : ℕ) → 48 ≤ c → c ≤ 57 → 2 ^ 64 ≤ n * 10 + (c - 48) → none ≡ decimal_from n (c ∷ [])
+one-too-large n c h k l = from-large (n * 10 + (c - 48)) [] l ∙ sym (from-digit n c [] (digit c h k))
+
+pub one_more : (n c : ℕ) → 48 ≤ c → c ≤ 57 → n * 10 + (c - 48) < 2 ^ 64 → some (n * 10 + (c - 48)) ≡ decimal_from n (c ∷ [])
+one_more n c h k l = from_nothing (n * 10 + (c - 48)) l ∙ sym (from-digit n c [] (digit c h k))
 
 -- ---- what that tells of all that is left
 
@@ -84,6 +104,12 @@ module _ (s : List ℕ) (n i : ℕ) {r : Option ℕ} (so_far : decimal_from n (d
   pub ends : length s ≤ i → n < 2 ^ 64 → some n ≡ r
   ends h l = from_nothing n l ∙ (rw (drop_of_length-le s h) at so_far)
 
--- ---- what the code is proved by
+-- ---- the number, or 0
+
+pub or-zero : (s : List ℕ) (answer : Number) → number_as answer ≡ decimal s → {n : ℕ} → answer ≡ Of n → n ≡ or_zero (decimal s)
+or-zero s answer h e = ap or_zero (sym (ap number_as e) ∙ h)
+
+pub none-zero : (s : List ℕ) (answer : Number) → number_as answer ≡ decimal s → answer ≡ Not → 0 ≡ or_zero (decimal s)
+none-zero s answer h e = ap or_zero (sym (ap number_as e) ∙ h)
 
 pub ruleset turns = (empty, begins, goes_on, stops, ends)

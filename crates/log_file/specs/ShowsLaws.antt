@@ -4,30 +4,29 @@
 use Rattle.std.specs.Prelude.{ℕ, ◌≤◌, ◌≡◌, refl, true, List, length, take, ℤ}
 use Rattle.std.proofs.Common.{add-zero, arith, sym, ◌∙◌, append-nil, le-ltb}
 use Rattle.lists.specs.Answers.{number_of, first}
-use Rattle.lists.specs.ChoiceLaws.{obeyed, obeyed-both, same-reply}
+use Rattle.lists.specs.ChoiceLaws.{obeyed, obeyed-both}
 use Rattle.entry.specs.Format.{segment}
 use Rattle.buffered.specs.declared.seek.SeekFrom.TheVariants.{Start, End, Current}
-use Rattle.buffered.specs.Staging.{Reads}
-use Rattle.buffered.proofs.StagingLaws.{same-position}
+use Rattle.buffered.specs.StagingLaws.{Reads, same-position}
 use Rattle.log_file.specs.declared.Moment.TheVariants.{Idle}
 use Rattle.log_file.specs.State.{Machine, store_of, position}
 use Rattle.log_file.specs.StateLaws.{facts-of, valid-by}
-use Rattle.log_file.specs.Calls.{Call, begin_entry, begin_chunk, write, finish, commit, rollback, flush, recycle, synchronize, landing, refusal, reports, acted, called}
+use Rattle.log_file.specs.Calls.{Call, begin_entry, begin_chunk, write, finish, commit, rollback, flush, recycle, synchronize, landing, refusal, acted, called}
 use Rattle.log_file.specs.CallsLaws.{number-called, accepted-clear, valid-reads, acted-reads, acted-valid}
 use Rattle.log_file.specs.Opening.{Terms, open_refusal, opened_machine, opened}
 use Rattle.log_file.specs.OpeningLaws.{opening-clear, headed-reads, kept-info, opened-machine, opened-valid}
-use Rattle.log_file.specs.History.{History, fresh, base, bytes, grow, causes, tells, told, next, tellable}
+use Rattle.log_file.specs.History.{History, fresh, base, bytes, grow, causes, next, tellable}
 use Rattle.log_file.specs.HistoryLaws.{segment-none, idle-nothing}
 use Rattle.log_file.specs.Shows.{Shows}
-use Rattle.log_file.proofs.ShowsAnswers.{Matches, same-causes, same-tells}
-use Rattle.log_file.proofs.ShowsNext.{grows}
+use Rattle.log_file.specs.ShowsAnswers.{Matches, same-causes}
+use Rattle.log_file.specs.ShowsNext.{grows}
 
 -- ---- what is shown of the store, and of the numbers
 
 shown-reads : (n : ℕ) (m : Machine) (h : History) → Shows n m h → Reads m.writer.size (store_of m) (bytes h)
 shown-reads n m h x = rw (← x.segment) (valid-reads m (facts-of m x.rules))
 
-shown-matches : (n : ℕ) (m : Machine) (h : History) → Shows n m h → Matches n m.writer h
+pub shown-matches : (n : ℕ) (m : Machine) (h : History) → Shows n m h → Matches n m.writer h
 shown-matches n m h x =
     record {
       size = x.size;
@@ -42,15 +41,9 @@ shown-matches n m h x =
 -- ---- the answer
 
 -- a shown state is never refused with 12, and its other refusals are the history's
-shown-refusal : (n : ℕ) (m : Machine) (h : History) (c : Call) → Shows n m h → tellable c ≡ true → refusal m c ≡ first (causes n h c)
+pub shown-refusal : (n : ℕ) (m : Machine) (h : History) (c : Call) → Shows n m h → tellable c ≡ true → refusal m c ≡ first (causes n h c)
 unfolding refusal
 shown-refusal n m h c x t = rw x.rules (same-causes n m.writer h c (shown-matches n m h x) t)
-
-pub same_answer : (n : ℕ) (m : Machine) (h : History) (c : Call) → Shows n m h → tellable c ≡ true → (called m c).answer ≡ told n h c
-unfolding called
-same_answer n m h c x t =
-    rw (shown-refusal n m h c x t)
-    (same-reply (first (causes n h c)) (reports m.writer c) (tells h c) (same-tells n m.writer h c (shown-matches n m h x) t))
 
 -- ---- the writer afterwards
 

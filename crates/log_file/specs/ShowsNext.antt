@@ -15,7 +15,7 @@ use Rattle.log_file.specs.CallsLaws.{leaves, appends}
 use Rattle.log_file.specs.OpeningLaws.{heading-header}
 use Rattle.log_file.specs.History.{Open, nothing, an_entry, a_chunk, History, begun, opening, base, bytes, moment_of, with_open, grow, holds, is_to_hold, causes}
 use Rattle.log_file.specs.HistoryLaws.{chunk-opening, entry-begun, segment-none, segment-snoc, begun-none, begun-snoc, opening-none, opening-more, chunk_sum-more}
-use Rattle.log_file.proofs.ShowsAnswers.{Matches}
+use Rattle.log_file.specs.ShowsAnswers.{Matches}
 
 -- the writer w after the call c, beside the history h'
 pub record Becomes (w : LogFileWriter) (c : Call) (bs : List ℕ) (h' : History) : Type 0 where

@@ -1,16 +1,25 @@
 -- What each step of staging does to the logical segment (`Reads`), to the sizes (`Sizes`) and to the synchronized number. Nothing above opens
 -- the store: these laws are all that is used of it.
 use Rattle.std.specs.Prelude.{ℕ, zero, suc, ◌+◌, ◌≤◌, ◌<◌, min, ◌≡◌, refl, cond, take, drop, leb, ltb}
-use Rattle.std.proofs.Common.{arith, ap, sym, ◌∙◌, subst, length-append, length-take, length-drop, take-append-drop, length-take-le, leb-true, leb-false, ltb-false}
-use mathlib.Core.List.{List, [], ◌∷◌, ◌++◌, append_assoc, append-nil, flatten}
+use Rattle.std.proofs.Common.{arith, ap, ◌∙◌, length-append, length-take, length-take-le, leb-true, leb-false, ltb-false}
+use mathlib.Core.List.{List, [], ◌∷◌, ◌++◌, append_assoc, append-nil}
 use Rattle.std.proofs.Math.ListN.{length}
 use Rattle.lists.specs.Lay.{lay}
 use Rattle.lists.specs.LayLaws.{length-lay, lay_done}
 use Rattle.lists.specs.TakeLaws.{take-append, take_min}
 use Rattle.lists.specs.ChoiceLaws.{either}
-use Rattle.buffered.specs.Staging.{Store, logical, logical_position, flushed, direct, staged, emptied, room, rounds, written, written_all, back_to, marked, synchronized, Reads, Sizes, Wrote}
+use Rattle.buffered.specs.Staging.{Store, logical, logical_position, flushed, direct, staged, emptied, room, rounds, written, written_all, back_to, marked, synchronized}
 
--- ---- a store that reads as bs
+-- ---- a sound store with an image of n bytes, whose logical segment is bs
+
+pub record Reads (n : ℕ) (s : Store) (bs : List ℕ) : Type 0 where
+  pub size : length s.image ≡ n
+  pub room : s.file.position + s.file.staged ≤ n
+  pub fits : s.file.staged ≤ length s.staging
+  pub sound : s.file.synchronized ≤ s.file.position
+  pub under : s.file.position ≤ s.file.length
+  pub top : s.file.length ≤ n
+  pub same : logical s ≡ bs
 
 pub reads-itself : (n : ℕ) (s : Store) (bs : List ℕ) → Reads n s bs → Reads n s (logical s)
 reads-itself n s bs r =
@@ -49,27 +58,11 @@ sync-reads n s t bs r =
 
 -- ---- a write appends its bytes
 
-flush-none : (s : Store) → (flushed s).file.staged ≡ 0
+pub flush-none : (s : Store) → (flushed s).file.staged ≡ 0
 unfolding flushed
 flush-none s = refl
 
-direct-reads : (n : ℕ) (s : Store) (xs bs : List ℕ) → s.file.staged ≡ 0 → Reads n s bs → length bs + length xs ≤ n → Reads n (direct s xs) (bs ++ xs)
-unfolding direct
-direct-reads n s xs bs z r h =
-    let at = s.file.position in
-    let p : logical_position s.file ≡ length bs = same-position n s bs r in
-    let e : take at s.image ≡ bs = sym (append-nil _) ∙ (rw z at r.same) in
-    record {
-      size = length-lay s.image at xs ∙ r.size;
-      room = omega arith;
-      fits = omega arith;
-      sound = omega arith;
-      under = omega arith;
-      top = omega arith;
-      same = rw z (append-nil _ ∙ lay_done s.image at xs (omega arith) ∙ rw e);
-    }
-
-staged-reads : (n : ℕ) (s : Store) (xs bs : List ℕ) → s.file.staged + length xs ≤ length s.staging → Reads n s bs → length bs + length xs ≤ n
+pub staged-reads : (n : ℕ) (s : Store) (xs bs : List ℕ) → s.file.staged + length xs ≤ length s.staging → Reads n s bs → length bs + length xs ≤ n
     → Reads n (staged s xs) (bs ++ xs)
 unfolding staged
 staged-reads n s xs bs f r h =
@@ -84,48 +77,16 @@ staged-reads n s xs bs f r h =
       same = rw (lay_done s.staging s.file.staged xs f, ← append_assoc, r.same);
     }
 
-emptied-reads : (n : ℕ) (s : Store) (bs : List ℕ) → Reads n s bs → Reads n (emptied s) bs
+pub emptied-reads : (n : ℕ) (s : Store) (bs : List ℕ) → Reads n s bs → Reads n (emptied s) bs
 unfolding emptied
 emptied-reads n s bs r = either (λ u. Reads n u bs) (leb (length s.staging) s.file.staged) (flushed s) s (λ e. flush-reads n s bs r) (λ e. r)
 
 -- a staging of any size has room once a full one is flushed
-emptied-room : (s : Store) → 1 ≤ length (emptied s).staging → (emptied s).file.staged < length (emptied s).staging
+pub emptied-room : (s : Store) → 1 ≤ length (emptied s).staging → (emptied s).file.staged < length (emptied s).staging
 unfolding emptied flushed
 emptied-room s =
     either (λ (u : Store). 1 ≤ length u.staging → u.file.staged < length u.staging) (leb (length s.staging) s.file.staged) (flushed s) s
     (λ e h. h) (λ e h. omega (arith, leb-false))
-
-rounds-reads : (fuel n : ℕ) (s : Store) (xs bs : List ℕ) → length xs ≤ fuel → Reads n s bs → length bs + length xs ≤ n
-    → Reads n (rounds fuel s xs) (bs ++ xs)
-unfolding rounds
-rounds-reads zero n s [] bs f r h = rw append-nil r
-rounds-reads zero n s (x ∷ xs) bs f r h = absurd (omega arith)
-rounds-reads (suc fuel) n s [] bs f r h = rw append-nil r
-rounds-reads (suc fuel) n s (x ∷ xs) bs f r h =
-    let t = emptied s in
-    let ys = x ∷ xs in
-    let a = take (room t) ys in
-    let b = drop (room t) ys in
-    let q : Reads n t bs = emptied-reads n s bs r in
-    either (λ u. Reads n u (bs ++ ys)) (ltb (length t.staging) (length ys)) (direct (flushed t) ys) (rounds fuel (staged t a) b)
-    (λ e. direct-reads n (flushed t) ys bs (flush-none t) (flush-reads n t bs q) h)
-    (λ e. let k : t.file.staged < length t.staging = emptied-room s (omega (arith, ltb-false)) in
-    let v : Reads n (staged t a) (bs ++ a) = staged-reads n t a bs (simp length-take (omega arith)) q (simp length-take (omega arith)) in
-    subst (λ l. Reads n (rounds fuel (staged t a) b) l) (append_assoc bs a b ∙ ap (λ l. bs ++ l) (take-append-drop (room t) ys))
-    (rounds-reads fuel n (staged t a) b (bs ++ a) (simp length-drop (omega arith)) v (simp (length-append, length-take, length-drop) (omega arith))))
-
-pub written-reads : (n : ℕ) (s : Store) (xs bs : List ℕ) → Reads n s bs → length bs + length xs ≤ n → Reads n (written s xs) (bs ++ xs)
-unfolding written
-written-reads n s xs bs r h = rounds-reads (length xs) n s xs bs (omega arith) r h
-
-pub written_all-reads : (n : ℕ) (s : Store) (writes : List (List ℕ)) (bs : List ℕ) → Reads n s bs → length bs + length (flatten writes) ≤ n
-    → Reads n (written_all s writes) (bs ++ flatten writes)
-unfolding written_all flatten
-written_all-reads n s [] bs r h = rw append-nil r
-written_all-reads n s (xs ∷ writes) bs r h =
-    let l : length (xs ++ flatten writes) ≡ length xs + length (flatten writes) = length-append xs (flatten writes) in
-    rw (← append_assoc)
-    (written_all-reads n (written s xs) writes (bs ++ xs) (written-reads n s xs bs r (omega arith)) (simp length-append (omega arith)))
 
 -- ---- going back cuts it
 
@@ -143,6 +104,16 @@ back-reads n s k bs r =
     }
 
 -- ---- the buffers keep their lengths, and the file length never shrinks
+
+pub record Sizes (s t : Store) : Type 0 where
+  pub image : length t.image ≡ length s.image
+  pub staging : length t.staging ≡ length s.staging
+  pub file : s.file.length ≤ t.file.length
+
+-- a write, or a flush, leaves the synchronized number too
+pub record Wrote (s t : Store) : Type 0 where
+  pub sizes : Sizes s t
+  pub synchronized : t.file.synchronized ≡ s.file.synchronized
 
 pub sizes-none : (s : Store) → Sizes s s
 sizes-none s = record { image = refl; staging = refl; file = omega arith }
