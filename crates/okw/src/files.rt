@@ -1,5 +1,5 @@
 // Segment files: read whole, written whole.
-ghost use Rattle.std.specs.Prelude.{◌+◌, ◌≤◌, IfOk, length};
+ghost use Rattle.std.specs.Prelude.{◌+◌, ◌≤◌, length};
 
 use crate::outcome::Reason;
 use crate::{arguments, modes, outcome};
@@ -36,27 +36,23 @@ fn no_path(error: FillError) -> Reason {
 
 // ---- reading
 
-// Reads until the image is full or the file ends, and answers the number of bytes.
-fn read_full(file: &mut File, image: &mut [u8]) -> io::Result<usize>
-    ensures { IfOk result (λ n. n ≤ length image.new) }
+// Reads until the image is full, the file ends or a read fails, and answers the number of bytes.
+fn read_full(file: &mut File, image: &mut [u8]) -> usize
+    ensures { result ≤ length image.new }
 {
     let mut n = 0;
     while n < image.len() {
-        let got = file.read(&mut image[n..])?;
-        if got == 0 {
-            break;
+        match file.read(&mut image[n..]) {
+            Ok(got) if got > 0 => n += got,
+            _ => break,
         }
-        n += got;
     }
-    Ok(n)
+    n
 }
 
 // Reads to the file's end: one more read must find nothing, so a file that is longer, or that cannot be read on, is not taken for a shorter one.
 fn read_whole(file: &mut File, image: &mut [u8]) -> Loaded {
-    let n = match read_full(file, image) {
-        Ok(n) => n,
-        Err(error) => return Loaded::Failed(Reason::System(error.kind())),
-    };
+    let n = read_full(file, image);
     let mut more = [0u8; 1];
     match file.read(&mut more) {
         Ok(0) => Loaded::Bytes(n),
