@@ -1,2 +1,3 @@
--- A small example.
+-- A part of the image as an answer; last, a small example.
+pub mod Parts
 pub mod Examples

@@ -1,5 +1,5 @@
--- The ways out of an opening, over plain variables: last_known above 1, opened or refused.
-use Rattle.std.proofs.Common.{◌≡◌, ap, ◌∙◌, ℕ, ◌≤◌, ◌<◌, true, List, [], replicate, lt-ltb, le-ltb}
+-- The ways out of an opening, over plain variables: too short, last_known above 1, opened or refused.
+use Rattle.std.proofs.Common.{◌≡◌, ap, ◌∙◌, true, false, List, [], ℕ, ◌≤◌, ◌<◌, replicate, lt-ltb, le-ltb}
 use Rattle.lists.specs.Lay.{lay}
 use Rattle.lists.specs.Answers.{Answer, number_of}
 use Rattle.log_file.specs.declared.LastId.{LastId}
@@ -13,6 +13,10 @@ use Rattle.okaywal_segment.specs.Steps.{enough}
 use Rattle.okaywal_segment.specs.OpeningCrossing.{Request, start, started_by, opening_of, started, OpenAllows}
 
 module _ (state info image staging : List ℕ) (q : Request) where
+  pub too_short : enough 0 state info [] ≡ false → OpenAllows state info image staging q 12 state info image staging
+  unfolding started
+  too_short e = rw e
+
   pub not_known : enough 0 state info [] ≡ true → 1 < q.known → (state' info' : List ℕ) → state' ≡ lay state 0 (replicate 16 0)
       → info' ≡ lay info 0 (replicate 255 0) → OpenAllows state info image staging q 12 state' info' image staging
   unfolding started opening_of

@@ -216,12 +216,15 @@ module _ (image : List ℕ) (bytes : Bytes image) (r : SegmentReader) (ready : R
   pub passed-by : (s : EntryStep) (c : ChunkCut) → ReadEntryAllows r image s → s.answer ≡ EntryCut c → PassedSays image r s.reader
   passed-by s c h e = entered s.reader (EntryCut c) (rw e at h)
 
-  -- a fit reader is not refused
-  pub never-refused : (s : EntryStep) (n : ℕ) → ReadEntryAllows r image s → s.answer ≡ NoEntry n → ⊥
-  never-refused s n h e = entered s.reader (NoEntry n) (rw e at h)
+  -- a fit reader is not refused: from such an answer anything follows; and, in the form that the search is given, there is none
+  pub never-refused : {A : Type 0} (s : EntryStep) (n : ℕ) → ReadEntryAllows r image s → s.answer ≡ NoEntry n → A
+  never-refused s n h e = absurd (entered s.reader (NoEntry n) (rw e at h))
+
+  pub never_refused_at_all : (s : EntryStep) (n : ℕ) → ReadEntryAllows r image s → s.answer ≡ NoEntry n → ⊥
+  never_refused_at_all s n h e = never-refused s n h e
 
 -- what is known of a slice's elements
 pub are-bytes : (s : List ℕ) → ((i : ℕ) → Fits w8 (get_or s i 0)) → Bytes s
 are-bytes s h = λ i l. let z = h i in omega arith
 
-pub ruleset turns = (are-bytes, found-by, over_by, passed-by, never-refused)
+pub ruleset turns = (are-bytes, found-by, over_by, passed-by, never_refused_at_all)

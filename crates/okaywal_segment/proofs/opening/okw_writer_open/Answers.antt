@@ -1,4 +1,4 @@
-use Rattle.std.proofs.Common.{rules, ◌≡◌, ◌≤◌, sym}
+use Rattle.std.proofs.Common.{rules, ◌≤◌, sym}
 use Rattle.log_file.specs.Promises.{answered_as}
 use Rattle.okaywal_segment.proofs.OpeningWays.{opens}
 use Rattle.okaywal_segment.specs.OpeningCrossing.{request}

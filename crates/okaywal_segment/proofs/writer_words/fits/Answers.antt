@@ -1,4 +1,4 @@
-use Rattle.std.proofs.Common.{◌≡◌, refl}
+use Rattle.std.proofs.Common.{refl}
 use Rattle.okaywal_segment.specs.WriterWords.{writer_fits}
 use Rattle.okaywal_segment.proofs.writer_words.fits.Goals as goal
 
