@@ -30,10 +30,10 @@ use Rattle.journal.specs.Step.{call_of, replied_as}
 use Rattle.journal.specs.Stories.{calls, canon_from, canon, story, answers_of}
 use Rattle.journal.specs.Demand3.{Given, ours}
 use Rattle.journal.specs.CodeRuns.{Opening, OpensFresh, opened_as, Stepping, Run, hears, OneStory}
-use Rattle.journal.proofs.TwoRuns.{two-runs-of-the-code}
+use Rattle.journal.proofs.Demand3Holds.{two-runs-of-the-code}
 use Rattle.journal.specs.Committed.{history_after, writer_after, AtRest, HoldsSegment, GivesBack}
-use Rattle.journal.proofs.BackFromBytes.{back-from-bytes}
-use Rattle.journal.proofs.CommittedLaws.{committed-segment}
+use Rattle.journal.specs.BackFromBytes.{back-from-bytes}
+use Rattle.journal.specs.CommittedLaws.{committed-segment}
 
 -- ---- runs of the code, from a list of calls with the replies that they get
 

@@ -1,5 +1,5 @@
 -- Document 01's cases ("Cases", those marked P) as data: what is done and asked, and what the document prints for it. That they hold of the definitions
--- that the public promises cite is `cases-hold` of proofs/CasesHold.
+-- that the public promises cite is `cases-hold` of `CasesHold`.
 -- Where not named: id 1, no version info, F = 0, sizes and preallocation 64. The old bytes are 7 in the image and 9 in staging, so that none is there
 -- by chance.
 use Rattle.std.specs.Prelude.{ℕ, zero, suc, ◌-◌, ◌≡◌, List, [], ◌∷◌, take, drop, replicate, ℤ, pos, negsuc}

@@ -1,5 +1,5 @@
 -- What a run has committed since opening or recycling, the writer that it leaves, and when that writer's image is a segment of these entries: what a
--- reader has to find there. The laws are in proofs/CommittedLaws.
+-- reader has to find there. The laws are in `CommittedLaws`.
 use Rattle.std.specs.Prelude.{ℕ, ◌+◌, ◌≤◌, ◌≡◌, List, [], ◌∷◌, length, take}
 use Rattle.entry.specs.Format.{Entry, segment, largest_image}
 use Rattle.log_file.specs.declared.Moment.TheVariants.{Idle}

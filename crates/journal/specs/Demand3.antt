@@ -1,6 +1,6 @@
 -- Demand 3, for the writer, as a statement about any program that opens and steps.
 -- `TwoRunHalf`: the answers of two runs agree. `FormatHalf`: each run is the one that the format gives. `Demand3` is both. That ours meets it is
--- `two_runs` of proofs/TwoRuns; programs that do not are in `WrongPrograms`. The demand's last sentence, on chunks that are read in cuts, is
+-- `two_runs` of proofs/Demand3Holds; programs that do not are in `WrongPrograms`. The demand's last sentence, on chunks that are read in cuts, is
 -- `cuts-do-not-show` of the reader.
 use Rattle.std.specs.Prelude.{ℕ, ◌≤◌, ◌≡◌, List, [], ◌∷◌, length, ltb}
 use Rattle.lists.specs.Answers.{Answer, number_of, Check, ◌⇒◌, first, reply}
@@ -57,7 +57,7 @@ ours = record { opens = λ o g. opened o 0 g.file_length g.image g.staging; step
 --   landings counted from the file length, refused or not: `part` leaves them out;
 --   the file length, the file position, the staging and sync numbers: `Seen` has none of them.
 -- Every other call is matched, and every other answer compared, refusals with their numbers. The plain reads of a state are no calls of a trace: that
--- the logical position and the last id are read alike is in proofs/PlainReads.
+-- the logical position and the last id are read alike is in proofs/Demand3Holds.
 pub record TwoRunHalf (p : Program) : Type 0 where
   pub openings : (o : Terms) (a b : Given) → InRange a → InRange b → length a.image ≡ length b.image
       → (p.opens o a).answer ≡ (p.opens o b).answer
@@ -83,7 +83,7 @@ pub record Follows (n : ℕ) (h : History) (m : Machine) (xs : List Heard) : Typ
 
 -- After each matching call the logical segment is, byte by byte, what the format gives for the history since opening or recycling; so are position,
 -- ids and moment, and the answers. A trace may be cut off anywhere, so what is said of its end is said after every call, also after those that are
--- left out. Two traces with one canonical form have one tale (`one-story` of proofs/TwoRuns).
+-- left out. Two traces with one canonical form have one tale (`one-story` of `TwoRuns`).
 pub record FormatHalf (p : Program) : Type 0 where
   pub opening : (o : Terms) (a : Given) → InRange a → (p.opens o a).answer ≡ opening_told (length a.image) o
   pub format : (o : Terms) (a : Given) → InRange a → number_of (p.opens o a).answer ≡ 0 → (cs : List Call)

@@ -1,11 +1,19 @@
--- In order: one step; demand 3, of any program and of the code; wrong programs; document 01's cases; entries committed. What is proved of them is in
--- proofs/, but for the laws that rest on no definition that a must-fail edit changes: of a step, and of numbers.
+-- In order: one step; demand 3, of any program and of the code; programs that fall to it; document 01's cases; entries committed, and back from bytes.
+-- That ours meets demand 3, and what rests on that, is in proofs/Demand3Holds.
 pub mod Step
 pub mod StepLaws
 pub mod Stories
 pub mod Demand3
+pub mod StoriesLaws
 pub mod CodeRuns
+pub mod TwoRuns
 pub mod WrongPrograms
+pub mod WrongProgramsFall
 pub mod NumbersOnly
+pub mod WrongProgramsAgree
 pub mod Cases
+pub mod CasesHold
 pub mod Committed
+pub mod CommittedLaws
+pub mod PlainReads
+pub mod BackFromBytes

@@ -1,5 +1,5 @@
 -- A run, call by call, and what demand 3 looks at in it: the canonical form of its calls, the story that is seen of it, and the tale that the format
--- tells of the same calls. The laws are in proofs/StoriesLaws.
+-- tells of the same calls. The laws are in `StoriesLaws` and proofs/Demand3Holds.
 use Rattle.std.specs.Prelude.{ℕ, ◌≡◌, true, List, [], ◌∷◌, ◌++◌, length}
 use Rattle.lists.specs.Answers.{Answer}
 use Rattle.buffered.specs.declared.seek.SeekFrom.TheVariants.{Start, End, Current}

@@ -1,5 +1,5 @@
 -- Programs that document 01 names as wrong ("How strong each public statement is"), as small definitions. That none meets demand 3 is in
--- proofs/WrongProgramsFall; that two of them meet its two-run half is in proofs/WrongProgramsAgree.
+-- `WrongProgramsFall`; that two of them meet its two-run half is in `WrongProgramsAgree` and proofs/Demand3Holds.
 use Rattle.std.specs.Prelude.{ℕ, suc, Bool, true, false, List, [], ◌∷◌, length, ltb}
 use Rattle.lists.specs.Answers.{Answer, accepted, refused}
 use Rattle.log_file.specs.declared.Moment.{Moment}

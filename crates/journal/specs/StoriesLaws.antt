@@ -1,5 +1,5 @@
--- A writer that shows a history tells, whatever its calls, the tale of that history (`follows`); and a fresh opening is refused for the history's
--- causes (`opening-as-told`).
+-- A writer that shows a history tells, whatever its calls, the tale of that history (`follows`, in proofs/Demand3Holds); and a fresh opening is refused
+-- for the history's causes (`opening-as-told`).
 use Rattle.std.specs.Prelude.{ℕ, ◌+◌, ◌-◌, ◌/◌, ◌≤◌, min, ◌≡◌, refl, Bool, true, false, cond, List, [], ◌∷◌, ◌++◌, length, take, ltb}
 use Rattle.std.proofs.Math.Nat.{div-eq_of_lt}
 use Rattle.std.proofs.Common.{add-zero, one-mul, arith, ap, sym, ◌∙◌, subst, append-nil, length-append, length-take, ltb-false, le-ltb}
@@ -18,8 +18,8 @@ use Rattle.log_file.specs.HistoryLaws.{length-chunk, write-joined, write-none, s
 use Rattle.log_file.specs.Shows.{Shows}
 use Rattle.log_file.specs.ShowsLaws.{still-shows}
 use Rattle.log_file.proofs.ShowsTells.{same_answer}
-use Rattle.journal.specs.Stories.{Heard, calls, Part, left_out, piece, matching, part, Canon, canon_at, canon_from, canon, seen, given, Story, ends, tells, story_at, story, tale, EachTold}
-use Rattle.journal.specs.Demand3.{Given, InRange, Program, heard, ours, opening_told, Follows}
+use Rattle.journal.specs.Stories.{Heard, calls, Part, left_out, piece, matching, part, Canon, canon_at, seen, given, Story, tells, story_at, tale, EachTold}
+use Rattle.journal.specs.Demand3.{Given, InRange, Program, heard, ours, opening_told}
 
 -- ---- what a part says of its call
 
@@ -52,11 +52,11 @@ shown-seen n m h x =
     let q = p ∙ ap length x.segment in
     λ i. record { segment = x.segment i; position' = q i; id = x.id i; last = x.last i; moment = x.moment i }
 
-abbrev one : Program → Machine → Call → Heard
+abbrev pub one : Program → Machine → Call → Heard
 one p m c = record { call = c; answer = (p.steps m c).answer; machine' = (p.steps m c).machine' }
 
 -- one call more: g is the history with the data offered so far
-told-call : (n : ℕ) (m : Machine) (h : History) (c : Call) (sofar : List ℕ) (rest : Story) (later : List ℕ → Canon) (k : Part)
+pub told-call : (n : ℕ) (m : Machine) (h : History) (c : Call) (sofar : List ℕ) (rest : Story) (later : List ℕ → Canon) (k : Part)
     → Shows n m (next n h (write sofar))
     → Effect k n (next n h (write sofar)) c
     → ((h' : History) (more : List ℕ) → Shows n (called m c).machine' (next n h' (write more)) → rest ≡ tale n h' (later more))
@@ -75,14 +75,7 @@ told-call n m h c sofar rest later matching x e f =
     let r = f (next n g c) [] (subst (λ u. Shows n (called m c).machine' u) (sym (write-none n (next n g c))) y) in
     λ i. tells (a i) (s i) (r i)
 
-told-from : (n : ℕ) (m : Machine) (h : History) (cs : List Call) (sofar : List ℕ) → Shows n m (next n h (write sofar))
-    → story m (heard ours m cs) ≡ tale n h (canon_from cs sofar)
-unfolding canon_from heard story tale
-told-from n m h [] sofar x = ap ends (shown-seen n m (next n h (write sofar)) x)
-told-from n m h (c ∷ cs) sofar x =
-    told-call n m h c sofar _ _ (part c) x (effect n (next n h (write sofar)) c) (λ h' more y. told-from n (called m c).machine' h' cs more y)
-
-each_from : (n : ℕ) (m : Machine) (h : History) (cs : List Call) → Shows n m h → EachTold n h (heard ours m cs)
+pub each_from : (n : ℕ) (m : Machine) (h : History) (cs : List Call) → Shows n m h → EachTold n h (heard ours m cs)
 unfolding heard
 each_from n m h [] x = tt
 each_from n m h (c ∷ cs) x =
@@ -92,13 +85,6 @@ pub calls-heard : (p : Program) (m : Machine) (cs : List Call) → calls (heard 
 unfolding heard
 calls-heard p m [] = refl
 calls-heard p m (c ∷ cs) = ap (λ ds. c ∷ ds) (calls-heard p (p.steps m c).machine' cs)
-
-pub follows : (n : ℕ) (m : Machine) (h : History) (cs : List Call) → Shows n m h → Follows n h m (heard ours m cs)
-follows n m h cs x =
-    record {
-      as_told = told-from n m h cs [] (rw (write-none n h) x) ∙ ap (λ ds. tale n h (canon ds)) (sym (calls-heard ours m cs));
-      each_told = each_from n m h cs x;
-    }
 
 -- ---- a single piece: what is told of it is min(offered, owed)
 

@@ -1,30 +1,28 @@
 -- Demand 3 for the plain reads of a state: after two runs of the code with one canonical form, the logical position and the last id are read alike. The
 -- file position, and whether all is synchronized, are excepted (they are numbers of staging and sync).
+-- The two theorems, `positions-agree` and `last-ids-agree`, are in proofs/Demand3Holds; here is what they rest on.
 use Rattle.std.specs.Prelude.{ℕ, ◌≡◌, refl, true, List, [], ◌∷◌, length}
 use Rattle.std.proofs.Common.{ap, sym, ◌∙◌}
 use Rattle.lists.specs.Answers.{number_of, accepted}
 use Rattle.lists.specs.AnswersLaws.{both}
 use Rattle.log_file.specs.declared.LogFileWriter.{LogFileWriter}
 use Rattle.log_file.specs.declared.Answer.TheVariants.{Accepted}
-use Rattle.log_file.specs.declared.file.Number.{Number}
-use Rattle.log_file.specs.declared.file.LastAnswer.{LastAnswer}
 use Rattle.log_file.specs.State.{Machine, ruled, valid}
 use Rattle.log_file.specs.Promises.{answered_as}
 use Rattle.log_file.specs.Opening.{Terms}
-use Rattle.log_file.specs.Reads.{last_values, read, PositionAllows, LastEntryIdAllows}
-use Rattle.log_file.specs.ReadsLaws.{position-one-answer, last-entry-id-one-answer}
+use Rattle.log_file.specs.Reads.{read}
 use Rattle.log_file.specs.History.{fresh}
 use Rattle.log_file.specs.Shows.{Shows}
 use Rattle.journal.specs.Stories.{Heard, calls, canon, Part, left_out, piece, matching, part, Seen, seen, Story, ends, tells, story_at, story}
 use Rattle.journal.specs.Demand3.{Given, InRange}
 use Rattle.journal.specs.CodeRuns.{Opening, OpensFresh, opened_as, Stepping, left_as, Run, hears_one, hears}
-use Rattle.journal.proofs.TwoRuns.{opened-shows, openings-of-the-code, two-runs-of-the-code}
+use Rattle.journal.specs.TwoRuns.{opened-shows, openings-of-the-code}
 use Rattle.journal.specs.Committed.{writer_after}
-use Rattle.journal.proofs.CommittedLaws.{after-shows}
+use Rattle.journal.specs.CommittedLaws.{after-shows}
 
 -- ---- what is seen at a story's end is what is seen of the writer after the run
 
-end_of : Story → Seen
+pub end_of : Story → Seen
 end_of (ends s) = s
 end_of (tells a s rest) = end_of rest
 
@@ -34,7 +32,7 @@ end-call left_out x rest = refl
 end-call (piece offered) x rest = refl
 end-call matching x rest = refl
 
-end_after : (m : Machine) (xs : List Stepping) → end_of (story m (hears xs)) ≡ seen (writer_after m xs)
+pub end_after : (m : Machine) (xs : List Stepping) → end_of (story m (hears xs)) ≡ seen (writer_after m xs)
 unfolding story end_of
 end_after m [] = refl
 end_after m (x ∷ xs) = end-call (part (hears_one x).call) (hears_one x) (story (left_as x) (hears xs)) ∙ end_after (left_as x) xs
@@ -45,35 +43,19 @@ shown-ruled : (n : ℕ) (m : Machine) (h : _) → Shows n m h → ruled m.writer
 unfolding valid
 shown-ruled n m h x = (both (ruled m.writer) _ (both _ _ x.rules).0).0
 
-read_alike : (v w : LogFileWriter) (xs ys : List ℕ) → ruled v ≡ true → ruled w ≡ true → xs ≡ ys → read v xs ≡ read w ys
+pub read_alike : (v w : LogFileWriter) (xs ys : List ℕ) → ruled v ≡ true → ruled w ≡ true → xs ≡ ys → read v xs ≡ read w ys
 unfolding read
 read_alike v w xs ys p q e = rw (p, q) (ap accepted e)
 
 module _ (o : Terms) (a b : Given) (ra : InRange a) (rb : InRange b) (same : length a.image ≡ length b.image) (x y : Opening)
     (p : OpensFresh o a x) (q : OpensFresh o b y) (accepts : x.result.answer ≡ Accepted) (xs ys : List Stepping) (r : Run (opened_as x) xs)
     (s : Run (opened_as y) ys) (form : canon (calls (hears xs)) ≡ canon (calls (hears ys))) where
-  one_end : seen (writer_after (opened_as x) xs) ≡ seen (writer_after (opened_as y) ys)
-  one_end =
-      sym (end_after (opened_as x) xs) ∙ ap end_of (two-runs-of-the-code o a b ra rb same x y p q accepts xs ys r s form).stories ∙ end_after (opened_as y) ys
-
-  read_one : ruled (writer_after (opened_as x) xs).writer ≡ true
+  pub read_one : ruled (writer_after (opened_as x) xs).writer ≡ true
   read_one =
       shown-ruled _ _ _ (after-shows (length a.image) (opened_as x) (fresh o.info o.id o.last) xs
       (opened-shows o a x p (ap (λ k. number_of (answered_as k)) accepts)) r)
 
-  read-other : ruled (writer_after (opened_as y) ys).writer ≡ true
+  pub read-other : ruled (writer_after (opened_as y) ys).writer ≡ true
   read-other =
       let z = ap number_of (sym (openings-of-the-code o a b ra rb same x y p q).0) ∙ ap (λ k. number_of (answered_as k)) accepts in
       shown-ruled _ _ _ (after-shows (length b.image) (opened_as y) (fresh o.info o.id o.last) ys (opened-shows o b y q z) s)
-
-  pub positions-agree : (i j : Number) → PositionAllows (writer_after (opened_as x) xs).writer i → PositionAllows (writer_after (opened_as y) ys).writer j
-      → i ≡ j
-  positions-agree i j k l =
-      position-one-answer _ i j k
-      (l ∙ read_alike _ _ _ _ read-other read_one (ap (λ (e : Seen). e.position' ∷ []) (sym one_end)))
-
-  pub last-ids-agree : (i j : LastAnswer) → LastEntryIdAllows (writer_after (opened_as x) xs).writer i
-      → LastEntryIdAllows (writer_after (opened_as y) ys).writer j → i ≡ j
-  last-ids-agree i j k l =
-      last-entry-id-one-answer _ i j k
-      (l ∙ read_alike _ _ _ _ read-other read_one (ap (λ (e : Seen). last_values e.last) (sym one_end)))

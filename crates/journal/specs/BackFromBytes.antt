@@ -17,7 +17,7 @@ use Rattle.journal.specs.Stories.{calls}
 use Rattle.journal.specs.Demand3.{Given}
 use Rattle.journal.specs.CodeRuns.{Opening, OpensFresh, opened_as, Stepping, Run, hears}
 use Rattle.journal.specs.Committed.{history_after, writer_after, Typed, AtRest, HoldsSegment, GivesBack}
-use Rattle.journal.proofs.CommittedLaws.{committed-segment}
+use Rattle.journal.specs.CommittedLaws.{committed-segment}
 
 segment-back : (m : Machine) (info : List ℕ) (es : List Entry) → HoldsSegment m info es → (before : List ℕ) (a : SegmentRead) (after : List ℕ)
     → ReadSegmentAllows m.writer.id (take (position m.writer) m.image) before a after

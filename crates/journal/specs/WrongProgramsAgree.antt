@@ -1,5 +1,5 @@
 -- A program with a fixed answer, and one that stores nothing, meet the two-run half of demand 3: their answers agree, however data is cut and staged.
--- It is the format that they fall to (`WrongProgramsFall`).
+-- It is the format that they fall to (`WrongProgramsFall`). Of the second it is `stores-nothing-agrees` of proofs/Demand3Holds, from what stands here.
 use Rattle.std.specs.Prelude.{ℕ, ◌≡◌, refl, List, [], ◌∷◌}
 use Rattle.std.proofs.Common.{ap, sym, ◌∙◌}
 use Rattle.lists.specs.Answers.{Answer, number_of}
@@ -11,7 +11,6 @@ use Rattle.log_file.specs.Opening.{Terms, opened_machine}
 use Rattle.log_file.specs.OpeningLaws.{opened-machine, opened-valid}
 use Rattle.journal.specs.Stories.{Heard, Part, left_out, piece, matching, part, Canon, done, then, canon_at, canon_from, Story, story, story_at, answers_of}
 use Rattle.journal.specs.Demand3.{Given, heard, story_of, ours, TwoRunHalf}
-use Rattle.journal.proofs.TwoRuns.{two_runs}
 use Rattle.journal.specs.NumbersOnly.{SameNumbers, same-numbers-answer, same-numbers-writer}
 use Rattle.journal.specs.WrongPrograms.{fixed_answer, stores_nothing}
 
@@ -72,18 +71,6 @@ opened-numbers o g e =
       staging = sym (v.staging ∙ ap (λ (u : Machine). u.writer.capacity) k);
     }
 
-nothing-story : (o : Terms) (g : Given) (cs : List Call) → number_of (ours.opens o g).answer ≡ 0
+pub nothing-story : (o : Terms) (g : Given) (cs : List Call) → number_of (ours.opens o g).answer ≡ 0
     → answers_of (story_of stores_nothing o g cs) ≡ answers_of (story_of ours o g cs)
 nothing-story o g cs e = nothing-answers (stores_nothing.opens o g).machine' (ours.opens o g).machine' cs (opened-numbers o g e)
-
-pub stores-nothing-agrees : TwoRunHalf stores_nothing
-stores-nothing-agrees =
-    let h = two_runs.two_run_half in
-    record {
-      openings = h.openings;
-      answers =
-          λ o g g' r r' same e cs ds c.
-          nothing-story o g cs e
-          ∙ h.answers o g g' r r' same e cs ds c
-          ∙ sym (nothing-story o g' ds (ap number_of (sym (h.openings o g g' r r' same)) ∙ e));
-    }

@@ -20,9 +20,9 @@ use Rattle.log_file.specs.ShowsLaws.{still-shows, flushed-image}
 use Rattle.journal.specs.Step.{call_of}
 use Rattle.journal.specs.Stories.{calls, Seen}
 use Rattle.journal.specs.Demand3.{Given}
-use Rattle.journal.proofs.StoriesLaws.{shown-seen}
+use Rattle.journal.specs.StoriesLaws.{shown-seen}
 use Rattle.journal.specs.CodeRuns.{Opening, OpensFresh, opened_as, Stepping, left_as, Run, hears}
-use Rattle.journal.proofs.TwoRuns.{opened-shows}
+use Rattle.journal.specs.TwoRuns.{opened-shows}
 use Rattle.journal.specs.Committed.{history_after, writer_after, Typed, AtRest, HoldsSegment}
 
 -- ---- the version info of a history never changes

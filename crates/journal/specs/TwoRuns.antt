@@ -2,31 +2,22 @@
 --   `two_runs`: ours, which is what the promises of the code allow, meets demand 3.
 --   `one-story`: of any program that meets it, two runs with one canonical form tell one story, segments, positions, ids and moments included.
 --   `two-runs-of-the-code`: the same said of any runs of the code itself: openings that `OpenAllows` allows, steps that `StepAllows` allows.
-use Rattle.std.specs.Prelude.{ℕ, ◌≡◌, refl, List, [], ◌∷◌, length}
+-- The first and the last are in proofs/Demand3Holds, which says why.
+use Rattle.std.specs.Prelude.{◌≡◌, refl, List, [], ◌∷◌, length}
 use Rattle.std.proofs.Common.{ap, sym, ◌∙◌, subst}
 use Rattle.lists.specs.Answers.{number_of}
-use Rattle.log_file.specs.declared.Answer.TheVariants.{Accepted}
 use Rattle.log_file.specs.State.{Machine}
 use Rattle.log_file.specs.Calls.{Call, Called}
 use Rattle.log_file.specs.Promises.{answered_as}
 use Rattle.log_file.specs.Opening.{Terms}
-use Rattle.log_file.specs.History.{History, fresh}
+use Rattle.log_file.specs.History.{fresh}
 use Rattle.log_file.specs.Shows.{Shows}
 use Rattle.log_file.specs.ShowsLaws.{fresh-shows}
 use Rattle.journal.specs.Step.{call_of}
 use Rattle.journal.specs.Stories.{calls, canon, answers_of, tale}
-use Rattle.journal.specs.Demand3.{Given, InRange, Program, heard, story_of, ours, opening_told, Follows, TwoRunHalf, FormatHalf, Demand3}
-use Rattle.journal.proofs.StoriesLaws.{calls-heard, follows, opening-as-told}
-use Rattle.journal.specs.CodeRuns.{Opening, OpensFresh, opened_as, Stepping, left_as, Run, hears, OneStory}
-
--- ---- ours
-
-ours-format : FormatHalf ours
-ours-format =
-    record {
-      opening = opening-as-told;
-      format = λ o a r e cs. follows (length a.image) _ _ cs (fresh-shows o a.file_length a.image a.staging e);
-    }
+use Rattle.journal.specs.Demand3.{Given, InRange, Program, heard, story_of, ours, opening_told, TwoRunHalf, FormatHalf, Demand3}
+use Rattle.journal.specs.StoriesLaws.{calls-heard, opening-as-told}
+use Rattle.journal.specs.CodeRuns.{Opening, OpensFresh, opened_as, Stepping, left_as, Run, hears}
 
 -- of any program whose runs are the format's
 format-story : (p : Program) → FormatHalf p → (o : Terms) (a : Given) → InRange a → number_of (p.opens o a).answer ≡ 0 → (cs : List Call)
@@ -51,9 +42,6 @@ format-two-runs p d =
       answers = λ o a b ra rb same e cs ds c. ap answers_of (one-story-format p d o a b ra rb same e cs ds c);
     }
 
-pub two_runs : Demand3 ours
-two_runs = record { two_run_half = format-two-runs ours ours-format; format_half = ours-format }
-
 pub one-story : (p : Program) → Demand3 p → (o : Terms) (a b : Given) → InRange a → InRange b → length a.image ≡ length b.image
     → number_of (p.opens o a).answer ≡ 0 → (cs ds : List Call) → canon cs ≡ canon ds → story_of p o a cs ≡ story_of p o b ds
 one-story p d = one-story-format p d.format_half
@@ -61,7 +49,7 @@ one-story p d = one-story-format p d.format_half
 -- ---- the code
 
 -- what a run of the code lets hear is what ours does
-run-heard : (m : Machine) (xs : List Stepping) → Run m xs → hears xs ≡ heard ours m (calls (hears xs))
+pub run-heard : (m : Machine) (xs : List Stepping) → Run m xs → hears xs ≡ heard ours m (calls (hears xs))
 unfolding heard
 run-heard m [] r = refl
 run-heard m (x ∷ xs) r =
@@ -78,9 +66,6 @@ opened-shows o g x p e =
     subst (λ m. Shows (length g.image) m (fresh o.info o.id o.last)) (ap (λ (u : Called). u.machine') (sym p))
     (fresh-shows o g.file_length g.image g.staging z)
 
-pub run-follows : (n : ℕ) (h : History) (m : Machine) (xs : List Stepping) → Shows n m h → Run m xs → Follows n h m (hears xs)
-run-follows n h m xs x r = subst (λ ys. Follows n h m ys) (sym (run-heard m xs r)) (follows n m h (calls (hears xs)) x)
-
 module _ (o : Terms) (a b : Given) (ra : InRange a) (rb : InRange b) (same : length a.image ≡ length b.image) (x y : Opening)
     (p : OpensFresh o a x) (q : OpensFresh o b y) where
   -- both openings answer alike, and as the format has it
@@ -88,19 +73,4 @@ module _ (o : Terms) (a b : Given) (ra : InRange a) (rb : InRange b) (same : len
   openings-of-the-code =
       let e = ap (λ (u : Called). u.answer) p in
       let f = ap (λ (u : Called). u.answer) q in
-      (e ∙ openings-alike ours ours-format o a b ra rb same ∙ sym f, e ∙ opening-as-told o a ra)
-
-  pub two-runs-of-the-code : x.result.answer ≡ Accepted → (xs ys : List Stepping)
-      → Run (opened_as x) xs → Run (opened_as y) ys → canon (calls (hears xs)) ≡ canon (calls (hears ys))
-      → OneStory (length a.image) (fresh o.info o.id o.last) (opened_as x) (opened_as y) (hears xs) (hears ys)
-  two-runs-of-the-code e xs ys r s c =
-      let h = fresh o.info o.id o.last in
-      let z : number_of (answered_as x.result.answer) ≡ 0 = ap (λ k. number_of (answered_as k)) e in
-      let u = run-follows (length a.image) h (opened_as x) xs (opened-shows o a x p z) r in
-      let v = run-follows (length a.image) h (opened_as y) ys (rw same (opened-shows o b y q (ap number_of (sym openings-of-the-code.0) ∙ z))) s in
-      record {
-        stories = u.as_told ∙ ap (λ d. tale (length a.image) h d) c ∙ sym v.as_told;
-        answers = ap answers_of (u.as_told ∙ ap (λ d. tale (length a.image) h d) c ∙ sym v.as_told);
-        one = u;
-        other = v;
-      }
+      (e ∙ opening-as-told o a ra ∙ rw same (sym (opening-as-told o b rb)) ∙ sym f, e ∙ opening-as-told o a ra)
