@@ -1,5 +1,5 @@
 -- What each step of staging does to the logical segment (`Reads`), to the sizes (`Sizes`) and to the synchronized number. Nothing above opens
--- the store: these laws are all that is used of it.
+-- the store: these laws, and those of proofs/WrittenReads, are all that is used of it.
 use Rattle.std.specs.Prelude.{ℕ, zero, suc, ◌+◌, ◌≤◌, ◌<◌, min, ◌≡◌, refl, cond, take, drop, leb, ltb}
 use Rattle.std.proofs.Common.{arith, ap, ◌∙◌, length-append, length-take, length-take-le, leb-true, leb-false, ltb-false}
 use mathlib.Core.List.{List, [], ◌∷◌, ◌++◌, append_assoc, append-nil}
@@ -56,7 +56,7 @@ sync-reads n s t bs r =
     either (λ u. Reads n u bs) (leb t s.file.synchronized) s (marked u) (λ e. r)
     (λ e. record { size = v.size; room = v.room; fits = v.fits; sound = omega arith; under = v.under; top = v.top; same = v.same })
 
--- ---- a write appends its bytes
+-- ---- what a write is made of appends its bytes; the write itself is in proofs/WrittenReads
 
 pub flush-none : (s : Store) → (flushed s).file.staged ≡ 0
 unfolding flushed

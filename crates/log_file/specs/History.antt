@@ -1,6 +1,6 @@
 -- What happened since opening or recycling, the bytes that the format gives for it, and what each call answers in these terms (document 01, "The
 -- writer"). Nothing here is shared with `Calls` but the calls, the declared types, the format, and how an answer is made of a row of checks and their numbers
--- (`first`, `reply`, `obey`), so that `ShowsLaws` compares two accounts. The laws are in `HistoryLaws`.
+-- (`first`, `reply`, `obey`), so that `ShowsLaws` and proofs/ShowsTells compare two accounts. The laws are in `HistoryLaws`.
 use Rattle.std.specs.Prelude.{ℕ, suc, ◌+◌, ◌-◌, Bool, true, false, not, length, take, ltb, pos, negsuc}
 use mathlib.Core.List.{List, [], ◌∷◌, ◌++◌, flat_map}
 use Rattle.lists.specs.Answers.{Answer, Check, ◌⇒◌, first, reply, obey}

@@ -1,4 +1,5 @@
--- A writer with its buffers shows a history: equations, and one bound on an open chunk. What a writer that shows a history answers and becomes is in `ShowsLaws`.
+-- A writer with its buffers shows a history: equations, and one bound on an open chunk. What a writer that shows a history answers is in proofs/ShowsTells,
+-- what it becomes in `ShowsLaws`.
 use Rattle.std.specs.Prelude.{ℕ, ◌≤◌, ◌≡◌, true}
 use Rattle.buffered.specs.Staging.{logical}
 use Rattle.log_file.specs.State.{Machine, store_of, valid}

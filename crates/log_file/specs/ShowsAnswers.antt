@@ -1,4 +1,5 @@
--- The refusals and reports that `Calls` works out from a writer's numbers are those that `History` gives in its own terms.
+-- The refusals that `Calls` works out from a writer's numbers are those that `History` gives in its own terms. That the reports are too is in
+-- proofs/ShowsTells.
 use Rattle.std.specs.Prelude.{ℕ, suc, ◌+◌, ◌-◌, ◌≤◌, ◌<◌, Bool, true, false, cond, pos, negsuc, ◌+ℤ◌, ltb}
 use Rattle.std.proofs.Common.{arith, sym, ltb-true, ltb-false, lt-ltb, le-ltb}
 use Rattle.std.proofs.Math.Path.{◌≡◌, refl}

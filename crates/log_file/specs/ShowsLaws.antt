@@ -1,6 +1,6 @@
--- A writer that shows a history answers what the history tells, and after any call shows the next one; an accepted fresh opening shows the fresh
--- history, and answers alike whatever the staging, the file length and the old bytes. All of this is about `called` and `opened`, which the code's
--- promises cite.
+-- A writer that shows a history is refused what the history refuses (that it answers what the history tells is in proofs/ShowsTells), and after any call
+-- shows the next one; an accepted fresh opening shows the fresh history, and answers alike whatever the staging, the file length and the old bytes. All of
+-- this is about `called` and `opened`, which the code's promises cite.
 use Rattle.std.specs.Prelude.{ℕ, ◌≤◌, ◌≡◌, refl, true, List, length, take, ℤ}
 use Rattle.std.proofs.Common.{add-zero, arith, sym, ◌∙◌, append-nil, le-ltb}
 use Rattle.lists.specs.Answers.{number_of, first}
@@ -38,7 +38,7 @@ shown-matches n m h x =
       holding = x.holding;
     }
 
--- ---- the answer
+-- ---- the refusal
 
 -- a shown state is never refused with 12, and its other refusals are the history's
 pub shown-refusal : (n : ℕ) (m : Machine) (h : History) (c : Call) → Shows n m h → tellable c ≡ true → refusal m c ≡ first (causes n h c)
