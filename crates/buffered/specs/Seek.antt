@@ -1,12 +1,8 @@
 -- Landing places (document 01, "A seek's landing place"): the target is worked out in the integers, then held against 0 and the image size.
-use Rattle.std.specs.Prelude.{ℕ, ◌≡◌, Bool, true, [], ◌∷◌, ltb, ℤ, pos, negsuc, ◌+ℤ◌}
+use Rattle.std.specs.Prelude.{ℕ, ◌≡◌, Bool, true, [], ◌∷◌, ltb, ℤ, pos, negsuc, ◌+ℤ◌, Option, Some, None}
+use Rattle.std.specs.declared.io.SeekFrom.{SeekFrom}
+use Rattle.std.specs.declared.io.SeekFrom.TheVariants.{Start, End, Current}
 use Rattle.lists.specs.Answers.{Answer, accepted, refused, ◌⇒◌, first, reply}
-use Rattle.buffered.specs.declared.seek.SeekFrom.{SeekFrom}
-use Rattle.buffered.specs.declared.seek.SeekFrom.TheVariants.{Start, End, Current}
-use Rattle.buffered.specs.declared.seek.Landing.{Landing}
-use Rattle.buffered.specs.declared.seek.Landing.TheVariants.{At, Refused}
-use Rattle.buffered.specs.declared.seek.Offset.{Offset}
-use Rattle.buffered.specs.declared.seek.Offset.TheVariants.{Up, Down}
 
 -- the place counted from, plus the signed offset
 abbrev pub target : SeekFrom → (length position : ℕ) → ℤ
@@ -26,14 +22,10 @@ place_of (negsuc n) = 0
 abbrev pub land : (size : ℕ) → ℤ → Answer
 land size z = reply (first ((misses size z ⇒ 11) ∷ [])) (place_of z ∷ [])
 
-abbrev pub landed_as : Landing → Answer
-landed_as (At place) = accepted (place ∷ [])
-landed_as (Refused n) = refused n
+-- the number and value of a landing: none is a refusal with 11
+abbrev pub landed_as : Option ℕ → Answer
+landed_as (Some place) = accepted (place ∷ [])
+landed_as None = refused 11
 
-abbrev pub SeekAllows : SeekFrom → (length position size : ℕ) → Landing → Type 0
+abbrev pub SeekAllows : SeekFrom → (length position size : ℕ) → Option ℕ → Type 0
 SeekAllows from length position size answer = landed_as answer ≡ land size (target from length position)
-
--- the integer that was taken apart
-abbrev pub integer : Offset → ℤ
-integer (Up n) = pos n
-integer (Down n) = negsuc n

@@ -1,7 +1,7 @@
 -- Document 01's bytes, computed from the definitions: P1, P2, P6.
 use Rattle.std.specs.Prelude.{◌≡◌, refl, [], ◌∷◌}
 use mathlib.Core.List.{flat_map}
-use Rattle.little_endian.specs.LittleEndian.{le}
+use Rattle.lists.specs.Numbers.{le}
 use Rattle.crc32c.specs.Crc.{bit_step, steps, byte_step, update, crc_append}
 use Rattle.entry.specs.Format.{header, covered, chunk_sum, chunk, entry, segment}
 use Rattle.entry.specs.Position.{position_bytes}

@@ -8,8 +8,8 @@ use borrow.Author.Tests.{lt-ltb, le-ltb}
 use Rattle.lists.specs.Lay.{lay}
 use Rattle.lists.specs.LayLaws.{lay-append}
 use Rattle.lists.specs.Answers.{accepted, refused}
-use Rattle.little_endian.specs.LittleEndian.{le, number}
-use Rattle.little_endian.specs.LittleEndianLaws.{length-le}
+use Rattle.lists.specs.Numbers.{le, number}
+use Rattle.lists.specs.NumbersLaws.{length-le}
 use Rattle.entry.specs.declared.LogPosition.{LogPosition}
 use Rattle.entry.specs.Position.{position_bytes, written, serialized, deserialized}
 

@@ -1,8 +1,8 @@
 -- The bytes of a segment (document 01, "Segment bytes"): header, chunk, entry, segment. Numbers are little-endian.
--- What a reader of our proofs must believe of the format is this file, `LittleEndian` and `Crc`.
+-- What a reader of our proofs must believe of the format is this file, `Numbers` and `Crc`.
 use Rattle.std.specs.Prelude.{ℕ, length}
 use mathlib.Core.List.{List, [], ◌∷◌, ◌++◌, flat_map}
-use Rattle.little_endian.specs.LittleEndian.{le}
+use Rattle.lists.specs.Numbers.{le}
 use Rattle.crc32c.specs.Crc.{crc32c}
 
 -- 6F 6B 77, version byte 0, length byte v, v bytes of version info

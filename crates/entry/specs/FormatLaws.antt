@@ -3,7 +3,7 @@
 use Rattle.std.specs.Prelude.{ℕ, ◌+◌, ◌^◌, ◌<◌, ◌≡◌, length}
 use Rattle.std.proofs.Common.{arith, length-append}
 use mathlib.Core.List.{List, [], flat_map}
-use Rattle.little_endian.specs.LittleEndianLaws.{length-le}
+use Rattle.lists.specs.NumbersLaws.{length-le}
 use Rattle.crc32c.specs.CrcLaws.{crc_append-lt, crc32c-nil}
 use Rattle.entry.specs.Format.{header, covered, chunk_sum, chunk, Entry, entry, segment}
 

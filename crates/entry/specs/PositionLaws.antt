@@ -1,15 +1,13 @@
 -- Positions there and back, and that each promise allows one answer.
-use Rattle.std.specs.Prelude.{ℕ, ◌^◌, ◌<◌, ◌≤◌, ◌≡◌, refl, List, [], ◌∷◌, ◌++◌, length}
+use Rattle.std.specs.Prelude.{ℕ, ◌^◌, ◌<◌, ◌≤◌, ◌≡◌, refl, List, [], ◌∷◌, ◌++◌, length, ltb, Bool, true, false, Result}
 use Rattle.std.proofs.Common.{arith, ap, sym, ◌∙◌, append_assoc, length-append, take_at, drop_at, le-ltb}
-use Rattle.lists.specs.Answers.{accepted}
-use Rattle.little_endian.specs.LittleEndian.{le, number}
-use Rattle.little_endian.specs.LittleEndianLaws.{length-le, from_le-le}
+use Rattle.lists.specs.Answers.{accepted, number_of, ◌⇒◌, first}
+use Rattle.lists.specs.Numbers.{le, number}
+use Rattle.lists.specs.NumbersLaws.{length-le, from_le-le}
 use Rattle.entry.specs.declared.LogPosition.{LogPosition}
-use Rattle.entry.specs.declared.Serialized.{Serialized}
-use Rattle.entry.specs.declared.Serialized.TheVariants.{Stored, Refused}
-use Rattle.entry.specs.declared.Deserialized.{Deserialized}
-use Rattle.entry.specs.declared.Deserialized.TheVariants.{Position, Refused as Refuses}
-use Rattle.entry.specs.Position.{position_bytes, serialized_as, Written, SerializeAllows, deserialized_as, deserialized, DeserializeAllows}
+use Rattle.entry.specs.declared.Refusal.{Refusal}
+use Rattle.entry.specs.RefusalLaws.{answered_one, one_result}
+use Rattle.entry.specs.Position.{position_bytes, serialized_as, Written, SerializeAllows, serialized, deserialized_as, DeserializeAllows, deserialized}
 
 pub length-position_bytes : (p : LogPosition) → length (position_bytes p) ≡ 16
 unfolding position_bytes
@@ -36,25 +34,31 @@ position-back p rest h g =
 
 -- ---- one answer
 
-serialized-one : (a b : Serialized) → serialized_as a ≡ serialized_as b → a ≡ b
-serialized-one Stored Stored e = refl
-serialized-one Stored (Refused n) e = let z : ◌≡◌ {A = ℕ} 0 1 = cc in absurd (omega arith)
-serialized-one (Refused m) Stored e = let z : ◌≡◌ {A = ℕ} 0 1 = cc in absurd (omega arith)
-serialized-one (Refused m) (Refused n) e = cc
+-- but for 9, which does not say what was cut
+serialized-one : (a b : Result (Unit {0}) Refusal) → serialized_as a ≡ serialized_as b → (number_of (serialized_as a) ≡ 9 → ⊥) → a ≡ b
+serialized-one = answered_one (λ _. []) (λ _ _ _. refl)
 
-pub serialize-one-answer : (p : LogPosition) (before : List ℕ) (a b : Serialized) (after after' : List ℕ)
+no_nine : (bad : Bool) (n : ℕ) → (n ≡ 9 → ⊥) → first ((bad ⇒ n) ∷ []) ≡ 9 → ⊥
+no_nine true n h e = h e
+no_nine false n h e = omega arith
+
+pub serialize-one-answer : (p : LogPosition) (before : List ℕ) (a b : Result (Unit {0}) Refusal) (after after' : List ℕ)
     → SerializeAllows p before a after → SerializeAllows p before b after' → (a ≡ b) × (after ≡ after')
-serialize-one-answer p before a b after after' x y =
-    (serialized-one a b (ap (λ (w : Written). w.answer) (x ∙ sym y)), ap (λ (w : Written). w.buffer) (x ∙ sym y))
+unfolding serialized
+serialize-one-answer p before a b after after' x y = (
+  one_result (λ _. []) (λ _ _ _. refl) a b _ [] (no_nine (ltb (length before) 16) 5 (λ e. omega arith)) (ap (λ (w : Written). w.answer) x) (ap (λ (w : Written). w.answer) y),
+  ap (λ (w : Written). w.buffer) (x ∙ sym y),
+)
 
-deserialized-one : (a b : Deserialized) → deserialized_as a ≡ deserialized_as b → a ≡ b
-deserialized-one (Position p) (Position q) e =
+same_position : (p q : LogPosition) → p.file_id ∷ p.offset ∷ [] ≡ q.file_id ∷ q.offset ∷ [] → p ≡ q
+same_position p q e =
     let f : p.file_id ≡ q.file_id = cc in
     let o : p.offset ≡ q.offset = cc in
-    λ i. Position (record { file_id = f i; offset = o i })
-deserialized-one (Position p) (Refuses n) e = let z : ◌≡◌ {A = ℕ} 0 1 = cc in absurd (omega arith)
-deserialized-one (Refuses m) (Position q) e = let z : ◌≡◌ {A = ℕ} 0 1 = cc in absurd (omega arith)
-deserialized-one (Refuses m) (Refuses n) e = cc
+    λ i. record { file_id = f i; offset = o i }
 
-pub deserialize-one-answer : (bytes : List ℕ) (a b : Deserialized) → DeserializeAllows bytes a → DeserializeAllows bytes b → a ≡ b
-deserialize-one-answer bytes a b x y = deserialized-one a b (x ∙ sym y)
+deserialized-one : (a b : Result LogPosition Refusal) → deserialized_as a ≡ deserialized_as b → (number_of (deserialized_as a) ≡ 9 → ⊥) → a ≡ b
+deserialized-one = answered_one (λ (p : LogPosition). p.file_id ∷ p.offset ∷ []) same_position
+
+pub deserialize-one-answer : (bytes : List ℕ) (a b : Result LogPosition Refusal) → DeserializeAllows bytes a → DeserializeAllows bytes b → a ≡ b
+unfolding deserialized
+deserialize-one-answer bytes a b x y = one_result _ same_position a b _ _ (no_nine (ltb (length bytes) 16) 1 (λ e. omega arith)) x y

@@ -1,3 +1,3 @@
--- In order: our writer meets demand 3, and what rests on that; the theorems on concrete runs.
-pub mod Demand3Holds
+-- In order: in ours cuts and staging do not show, and what rests on that; the theorems on concrete runs.
+pub mod CutsDoNotShowHolds
 pub mod Instances

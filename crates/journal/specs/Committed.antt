@@ -1,6 +1,7 @@
 -- What a run has committed since opening or recycling, the writer that it leaves, and when that writer's image is a segment of these entries: what a
 -- reader has to find there. The laws are in `CommittedLaws`.
-use Rattle.std.specs.Prelude.{ℕ, ◌+◌, ◌≤◌, ◌≡◌, List, [], ◌∷◌, length, take}
+use Rattle.std.specs.Prelude.{ℕ, ◌+◌, ◌≤◌, ◌≡◌, List, [], ◌∷◌, length, take, Result, Ok}
+use Rattle.entry.specs.declared.Refusal.{Refusal}
 use Rattle.entry.specs.Format.{Entry, segment, largest_image}
 use Rattle.log_file.specs.declared.Moment.TheVariants.{Idle}
 use Rattle.log_file.specs.State.{Machine, position}
@@ -9,10 +10,10 @@ use Rattle.log_file.specs.History.{History, next}
 use Rattle.log_file.specs.HistoryRanges.{Argued}
 use Rattle.lists.specs.All.{All}
 use Rattle.entry.specs.Writable.{Writable}
-use Rattle.segment_reader.specs.Yielded.{as_found, yielded}
-use Rattle.segment_reader.specs.Driver.{recorded}
+use Rattle.reading.specs.Yielded.{as_found, yielded}
+use Rattle.segment_reader.specs.Driver.{recorded, recorded_words, in_words}
 use Rattle.segment_reader.specs.declared.survey.SegmentRead.{SegmentRead}
-use Rattle.segment_reader.specs.declared.survey.SegmentRead.TheVariants.{Read}
+use Rattle.segment_reader.specs.declared.survey.EntryRead.{EntryRead}
 use Rattle.journal.specs.Stories.{calls}
 use Rattle.journal.specs.CodeRuns.{Stepping, left_as, hears}
 
@@ -45,8 +46,9 @@ pub record HoldsSegment (m : Machine) (info : List ℕ) (entries : List Entry) :
 
 -- what `read_segment`, given an image, answered (a) and recorded (`after`, where `before` stood) gives these entries back: it met exactly them, all
 -- complete, their sums right; the valid bytes end at `end`; id, place and number of chunks of each are recorded, in order and back to back from
--- behind the header; and the data that stands there in the image is theirs
-pub record GivesBack (image info : List ℕ) (entries : List Entry) (end : ℕ) (before : List ℕ) (a : SegmentRead) (after : List ℕ) : Type 0 where
-  pub answer : a ≡ Read (length entries) (length entries) end
+-- behind the header, and so in words, four an entry; and the data that stands there in the image is theirs
+pub record GivesBack (image info : List ℕ) (entries : List Entry) (end : ℕ) (before : List EntryRead) (a : Result SegmentRead Refusal) (after : List EntryRead) : Type 0 where
+  pub answer : a ≡ Ok (record { met = length entries; complete = length entries; valid_until = end })
   pub recorded_so : after ≡ recorded before 0 (as_found (5 + length info) entries)
+  pub words_so : in_words after ≡ recorded_words (in_words before) 0 (as_found (5 + length info) entries)
   pub yields_them : yielded image (as_found (5 + length info) entries) ≡ entries

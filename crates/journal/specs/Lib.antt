@@ -1,9 +1,7 @@
--- In order: one step; demand 3, of any program and of the code; programs that fall to it; document 01's cases; entries committed, and back from bytes.
--- That ours meets demand 3, and what rests on that, is in proofs/Demand3Holds.
-pub mod Step
-pub mod StepLaws
+-- In order: that cuts and staging do not show, of any program and of the code; wrong programs; cases; entries committed, and back from bytes; last, what
+-- `laws` promises. That in ours they do not show, and what rests on that, is in proofs/CutsDoNotShowHolds.
 pub mod Stories
-pub mod Demand3
+pub mod CutsDoNotShow
 pub mod StoriesLaws
 pub mod CodeRuns
 pub mod TwoRuns
@@ -17,3 +15,4 @@ pub mod Committed
 pub mod CommittedLaws
 pub mod PlainReads
 pub mod BackFromBytes
+pub mod Laws

@@ -1,20 +1,20 @@
--- Demand 3 for the plain reads of a state: after two runs of the code with one canonical form, the logical position and the last id are read alike. The
+-- The plain reads of a state: after two runs of the code with one canonical form, the logical position and the last id are read alike. The
 -- file position, and whether all is synchronized, are excepted (they are numbers of staging and sync).
--- The two theorems, `positions-agree` and `last-ids-agree`, are in proofs/Demand3Holds; here is what they rest on.
-use Rattle.std.specs.Prelude.{ℕ, ◌≡◌, refl, true, List, [], ◌∷◌, length}
+-- The two theorems, `positions-agree` and `last-ids-agree`, are in proofs/CutsDoNotShowHolds; here is what they rest on.
+use Rattle.std.specs.Prelude.{ℕ, ◌≡◌, refl, true, List, [], ◌∷◌, length, Ok}
 use Rattle.std.proofs.Common.{ap, sym, ◌∙◌}
 use Rattle.lists.specs.Answers.{number_of, accepted}
 use Rattle.lists.specs.AnswersLaws.{both}
 use Rattle.log_file.specs.declared.LogFileWriter.{LogFileWriter}
-use Rattle.log_file.specs.declared.Answer.TheVariants.{Accepted}
+use Rattle.entry.specs.Refusal.{answer_of}
 use Rattle.log_file.specs.State.{Machine, ruled, valid}
-use Rattle.log_file.specs.Promises.{answered_as}
+use Rattle.log_file.specs.Promises.{no_values}
 use Rattle.log_file.specs.Opening.{Terms}
 use Rattle.log_file.specs.Reads.{read}
 use Rattle.log_file.specs.History.{fresh}
 use Rattle.log_file.specs.Shows.{Shows}
 use Rattle.journal.specs.Stories.{Heard, calls, canon, Part, left_out, piece, matching, part, Seen, seen, Story, ends, tells, story_at, story}
-use Rattle.journal.specs.Demand3.{Given, InRange}
+use Rattle.journal.specs.CutsDoNotShow.{Given, InRange}
 use Rattle.journal.specs.CodeRuns.{Opening, OpensFresh, opened_as, Stepping, left_as, Run, hears_one, hears}
 use Rattle.journal.specs.TwoRuns.{opened-shows, openings-of-the-code}
 use Rattle.journal.specs.Committed.{writer_after}
@@ -48,14 +48,14 @@ unfolding read
 read_alike v w xs ys p q e = rw (p, q) (ap accepted e)
 
 module _ (o : Terms) (a b : Given) (ra : InRange a) (rb : InRange b) (same : length a.image ≡ length b.image) (x y : Opening)
-    (p : OpensFresh o a x) (q : OpensFresh o b y) (accepts : x.result.answer ≡ Accepted) (xs ys : List Stepping) (r : Run (opened_as x) xs)
+    (p : OpensFresh o a x) (q : OpensFresh o b y) (accepts : x.result ≡ Ok tt) (xs ys : List Stepping) (r : Run (opened_as x) xs)
     (s : Run (opened_as y) ys) (form : canon (calls (hears xs)) ≡ canon (calls (hears ys))) where
   pub read_one : ruled (writer_after (opened_as x) xs).writer ≡ true
   read_one =
       shown-ruled _ _ _ (after-shows (length a.image) (opened_as x) (fresh o.info o.id o.last) xs
-      (opened-shows o a x p (ap (λ k. number_of (answered_as k)) accepts)) r)
+      (opened-shows o a x p (ap (λ k. number_of (answer_of no_values k)) accepts)) r)
 
   pub read-other : ruled (writer_after (opened_as y) ys).writer ≡ true
   read-other =
-      let z = ap number_of (sym (openings-of-the-code o a b ra rb same x y p q).0) ∙ ap (λ k. number_of (answered_as k)) accepts in
+      let z = ap number_of (sym (openings-of-the-code o a b ra rb same x y p q).0) ∙ ap (λ k. number_of (answer_of no_values k)) accepts in
       shown-ruled _ _ _ (after-shows (length b.image) (opened_as y) (fresh o.info o.id o.last) ys (opened-shows o b y q z) s)

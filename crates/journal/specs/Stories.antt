@@ -1,10 +1,9 @@
--- A run, call by call, and what demand 3 looks at in it: the canonical form of its calls, the story that is seen of it, and the tale that the format
--- tells of the same calls. The laws are in `StoriesLaws` and proofs/Demand3Holds.
-use Rattle.std.specs.Prelude.{ℕ, ◌≡◌, true, List, [], ◌∷◌, ◌++◌, length}
+-- A run, call by call, and what is compared of two runs: the canonical form of its calls, the story that is seen of it, and the tale that the format
+-- tells of the same calls. The laws are in `StoriesLaws` and proofs/CutsDoNotShowHolds.
+use Rattle.std.specs.Prelude.{ℕ, ◌≡◌, true, List, [], ◌∷◌, ◌++◌, length, Option}
+use Rattle.std.specs.declared.io.SeekFrom.TheVariants.{Start, End, Current}
 use Rattle.lists.specs.Answers.{Answer}
-use Rattle.buffered.specs.declared.seek.SeekFrom.TheVariants.{Start, End, Current}
 use Rattle.buffered.specs.Staging.{logical}
-use Rattle.log_file.specs.declared.LastId.{LastId}
 use Rattle.log_file.specs.declared.Moment.{Moment}
 use Rattle.log_file.specs.State.{Machine, store_of, position}
 use Rattle.log_file.specs.Calls.{Call, begin_entry, begin_chunk, write, finish, commit, rollback, recycle, flush, synchronize, landing}
@@ -67,7 +66,7 @@ pub record Seen : Type 0 where
   pub segment : List ℕ
   pub position' : ℕ
   pub id : ℕ
-  pub last : LastId
+  pub last : Option ℕ
   pub moment : Moment
 
 abbrev pub seen : Machine → Seen

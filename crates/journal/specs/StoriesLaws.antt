@@ -1,11 +1,11 @@
--- A writer that shows a history tells, whatever its calls, the tale of that history (`follows`, in proofs/Demand3Holds); and a fresh opening is refused
--- for the history's causes (`opening-as-told`).
+-- A writer that shows a history tells, whatever its calls, the tale of that history (`follows`, in proofs/CutsDoNotShowHolds); and a fresh opening is
+-- refused for the history's causes (`opening-as-told`).
 use Rattle.std.specs.Prelude.{ℕ, ◌+◌, ◌-◌, ◌/◌, ◌≤◌, min, ◌≡◌, refl, Bool, true, false, cond, List, [], ◌∷◌, ◌++◌, length, take, ltb}
 use Rattle.std.proofs.Math.Nat.{div-eq_of_lt}
 use Rattle.std.proofs.Common.{add-zero, one-mul, arith, ap, sym, ◌∙◌, subst, append-nil, length-append, length-take, ltb-false, le-ltb}
 use Rattle.lists.specs.Answers.{accepted}
 use Rattle.entry.specs.FormatLaws.{length-header}
-use Rattle.buffered.specs.declared.seek.SeekFrom.TheVariants.{Start, End, Current}
+use Rattle.std.specs.declared.io.SeekFrom.TheVariants.{Start, End, Current}
 use Rattle.buffered.specs.Staging.{logical}
 use Rattle.buffered.specs.StagingLaws.{same-position}
 use Rattle.log_file.specs.State.{Machine, store_of}
@@ -19,7 +19,7 @@ use Rattle.log_file.specs.Shows.{Shows}
 use Rattle.log_file.specs.ShowsLaws.{still-shows}
 use Rattle.log_file.proofs.ShowsTells.{same_answer}
 use Rattle.journal.specs.Stories.{Heard, calls, Part, left_out, piece, matching, part, Canon, canon_at, seen, given, Story, tells, story_at, tale, EachTold}
-use Rattle.journal.specs.Demand3.{Given, InRange, Program, heard, ours, opening_told}
+use Rattle.journal.specs.CutsDoNotShow.{Given, InRange, Program, heard, ours, opening_told}
 
 -- ---- what a part says of its call
 

@@ -1,5 +1,5 @@
--- Programs that document 01 names as wrong ("How strong each public statement is"), as small definitions. That none meets demand 3 is in
--- `WrongProgramsFall`; that two of them meet its two-run half is in `WrongProgramsAgree` and proofs/Demand3Holds.
+-- Programs that are wrong, as small definitions: in none may cuts and staging be said not to show. That `CutsDoNotShow` holds of none is in
+-- `WrongProgramsFall`; that the answers of two of them agree all the same is in `WrongProgramsAgree` and proofs/CutsDoNotShowHolds.
 use Rattle.std.specs.Prelude.{ℕ, suc, Bool, true, false, List, [], ◌∷◌, length, ltb}
 use Rattle.lists.specs.Answers.{Answer, accepted, refused}
 use Rattle.log_file.specs.declared.Moment.{Moment}
@@ -7,7 +7,7 @@ use Rattle.log_file.specs.State.{machine}
 use Rattle.log_file.specs.Calls.{Called, after, called, length_of, owed_of}
 use Rattle.log_file.specs.Opening.{blank}
 use Rattle.journal.specs.Stories.{Part, left_out, piece, matching, part}
-use Rattle.journal.specs.Demand3.{Program, ours}
+use Rattle.journal.specs.CutsDoNotShow.{Program, ours}
 
 -- refuses everything, with any number
 abbrev pub refuses_everything : (n : ℕ) → Program

@@ -1,5 +1,5 @@
--- A program with a fixed answer, and one that stores nothing, meet the two-run half of demand 3: their answers agree, however data is cut and staged.
--- It is the format that they fall to (`WrongProgramsFall`). Of the second it is `stores-nothing-agrees` of proofs/Demand3Holds, from what stands here.
+-- Of a program with a fixed answer, and of one that stores nothing, the answers of two runs agree, however data is cut and staged. It is the format that
+-- they fall to (`WrongProgramsFall`). Of the second it is `stores-nothing-agrees` of proofs/CutsDoNotShowHolds, from what stands here.
 use Rattle.std.specs.Prelude.{ℕ, ◌≡◌, refl, List, [], ◌∷◌}
 use Rattle.std.proofs.Common.{ap, sym, ◌∙◌}
 use Rattle.lists.specs.Answers.{Answer, number_of}
@@ -10,7 +10,7 @@ use Rattle.log_file.specs.CallsLaws.{called-kept}
 use Rattle.log_file.specs.Opening.{Terms, opened_machine}
 use Rattle.log_file.specs.OpeningLaws.{opened-machine, opened-valid}
 use Rattle.journal.specs.Stories.{Heard, Part, left_out, piece, matching, part, Canon, done, then, canon_at, canon_from, Story, story, story_at, answers_of}
-use Rattle.journal.specs.Demand3.{Given, heard, story_of, ours, TwoRunHalf}
+use Rattle.journal.specs.CutsDoNotShow.{Given, heard, story_of, ours, AnswersAgree}
 use Rattle.journal.specs.NumbersOnly.{SameNumbers, same-numbers-answer, same-numbers-writer}
 use Rattle.journal.specs.WrongPrograms.{fixed_answer, stores_nothing}
 
@@ -33,7 +33,7 @@ fixed-answers a m [] sofar = refl
 fixed-answers a m (c ∷ cs) sofar =
     fixed-call a (record { call = c; answer = a; machine' = m }) sofar _ _ (part c) refl (λ more. fixed-answers a m cs more)
 
-pub fixed-answer-agrees : (a : Answer) → TwoRunHalf (fixed_answer a)
+pub fixed-answer-agrees : (a : Answer) → AnswersAgree (fixed_answer a)
 fixed-answer-agrees a =
     record {
       openings = λ o g g' r r' same. refl;

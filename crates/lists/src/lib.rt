@@ -1,66 +1,62 @@
-// internal: storing bytes into a buffer, sums and tests that cannot wrap, and one check of a row of refusals.
+// internal: for the crates above alone
+//! Storing bytes into a buffer, numbers of 4 and 8 bytes. What else stands here are words of specs/ that the crates above share.
 #![tactic(auto)]
 
-ghost use Rattle.std.specs.Prelude.{◌≡◌, cond, ◌+◌, ◌-◌, ◌≤◌, min, max, length, leb, ltb};
+ghost use Rattle.std.specs.Prelude.{◌≡◌, ◌+◌, ◌≤◌, length};
 ghost use Rattle.lists.specs.Lay.{lay};
+ghost use Rattle.lists.specs.Numbers.{le, number as number_at};
 
-// Copies src into dst from the offset at on, in ascending order.
+/// Copies src into dst from the offset at on.
 pub fn copy_at(dst: &mut [u8], at: usize, src: &[u8])
     requires { at + length src.now ≤ length dst.old }
     ensures { dst.new ≡ lay dst.old at src.now }
 {
-    let mut i = 0;
-    while i < src.len() {
-        let b = src[i];
-        dst[at + i] = b;
-        i += 1;
-    }
+    dst[at..at + src.len()].copy_from_slice(src);
 }
 
-// The larger of two numbers.
-pub fn larger(a: usize, b: usize) -> usize
-    ensures { result ≡ max a b }
+// Two functions each way, and not one over the width: each is std's conversion of its own type, and u32 and u64 have no trait of that in common. std's
+// methods at the callers in place of these were tried: the proofs of `begin_entry` and `finish` of log_file did not close. With the width as a const
+// parameter std's bytes would be cut to it anew: no plainer.
+
+/// The 4 bytes of a number, the low byte first.
+#[tactic(auto, using(crate::proofs::Numbers::bytes))]
+pub fn u32_bytes(number: u32) -> [u8; 4]
+    ensures { result ≡ le 4 number }
 {
-    if a <= b { b } else { a }
+    number.to_le_bytes()
 }
 
-// The smaller of two numbers.
-pub fn smaller(a: usize, b: usize) -> usize
-    ensures { result ≡ min a b }
+/// The 8 bytes of a number, the low byte first.
+#[tactic(auto, using(crate::proofs::Numbers::bytes))]
+pub fn u64_bytes(number: u64) -> [u8; 8]
+    ensures { result ≡ le 8 number }
 {
-    if a <= b { a } else { b }
+    number.to_le_bytes()
 }
 
-// a - b, or 0 where b is larger.
-pub fn less(a: usize, b: usize) -> usize
-    ensures { result ≡ a - b }
+/// The number in the 4 bytes at the offset at.
+#[tactic(auto, using(crate::proofs::Numbers::places))]
+pub fn u32_at(bytes: &[u8], at: usize) -> u32
+    requires { at + 4 ≤ length bytes.now }
+    ensures { result ≡ number_at 4 bytes.now at }
 {
-    if a <= b { 0 } else { a - b }
+    u32::from_le_bytes([bytes[at], bytes[at + 1], bytes[at + 2], bytes[at + 3]])
 }
 
-// Whether a + b is at most limit; the sum is never formed.
-pub fn within(a: usize, b: usize, limit: usize) -> bool
-    ensures { result ≡ leb (a + b) limit }
+/// The number in the 8 bytes at the offset at.
+#[tactic(auto, using(crate::proofs::Numbers::places))]
+pub fn u64_at(bytes: &[u8], at: usize) -> u64
+    requires { at + 8 ≤ length bytes.now }
+    ensures { result ≡ number_at 8 bytes.now at }
 {
-    if a <= limit { b <= limit - a } else { false }
-}
-
-// Whether a + b + c is more than limit; no sum is formed.
-pub fn exceeds(a: usize, b: usize, c: usize, limit: usize) -> bool
-    ensures { result ≡ ltb limit (a + b + c) }
-{
-    if limit < a {
-        return true;
-    }
-    if limit - a < b {
-        return true;
-    }
-    limit - a - b < c
-}
-
-// One check of a row: its number where it is bad, else what the rest says.
-pub fn refuse_if(bad: bool, no: u8, rest: u8) -> u8
-    ensures { result ≡ cond bad no rest }
-{
-    if bad { no } else { rest }
+    u64::from_le_bytes([
+        bytes[at],
+        bytes[at + 1],
+        bytes[at + 2],
+        bytes[at + 3],
+        bytes[at + 4],
+        bytes[at + 5],
+        bytes[at + 6],
+        bytes[at + 7],
+    ])
 }

@@ -7,12 +7,12 @@ use Rattle.std.proofs.Math.IntN.{pos, negsuc}
 use Rattle.lists.specs.Lay.{lay}
 use Rattle.lists.specs.Answers.{Answer, accepted, refused, number_of}
 use Rattle.lists.specs.AnswersLaws.{Every, every}
-use Rattle.little_endian.specs.LittleEndian.{le}
+use Rattle.lists.specs.Numbers.{le}
 use Rattle.crc32c.specs.Crc.{bit_step, steps, byte_step, update, crc_append}
 use Rattle.entry.specs.Format.{header, covered, chunk_sum, chunk, entry, segment}
-use Rattle.buffered.specs.declared.seek.SeekFrom.TheVariants.{Start, End, Current}
+use Rattle.std.specs.declared.io.SeekFrom.TheVariants.{Start, End, Current}
 use Rattle.buffered.specs.Staging.{logical, flushed, direct, staged, emptied, rounds, written, written_all, back_to, synchronized}
-use Rattle.log_file.specs.declared.LastId.TheVariants.{Nothing}
+use Rattle.std.specs.Prelude.{None}
 use Rattle.log_file.specs.State.{Machine, store_of, position, ruled, valid}
 use Rattle.log_file.specs.Calls.{Call, begin_entry, begin_chunk, write, finish, commit, rollback, flush, recycle, synchronize, landing, checks, refusal, reports, writes, worked, moment_after, last_after, id_after, acted, called}
 use Rattle.log_file.specs.Opening.{Terms, padded, open_refusal, prepared, unheaded, headed, opened_machine, opened}
@@ -24,7 +24,7 @@ use Rattle.log_file.specs.ShowsLaws.{still-shows, fresh-shows}
 
 -- id 1, no version info
 abbrev pub terms : (preallocate : ℕ) → Terms
-terms p = record { id = 1; last = Nothing; info = []; preallocate = p }
+terms p = record { id = 1; last = None; info = []; preallocate = p }
 
 -- a writer opened fresh, with an image and a preallocation of n bytes and a staging of k; the old bytes are 7 and 9
 abbrev pub fresh : (n k : ℕ) → Machine
@@ -122,7 +122,7 @@ trace_bytes =
 
 -- the history's side of it, computed
 abbrev begins : History
-begins = History.fresh [] 1 Nothing
+begins = History.fresh [] 1 None
 
 abbrev pub nexts : (n : ℕ) → History → List Call → History
 nexts n h [] = h
@@ -196,7 +196,7 @@ rounds-up = refl
 
 -- the order of an opening's refusals: 12, 4, 5
 abbrev long : (preallocate : ℕ) → Terms
-long p = record { id = 1; last = Nothing; info = replicate 256 0; preallocate = p }
+long p = record { id = 1; last = None; info = replicate 256 0; preallocate = p }
 
 pub opening-order : ((opened (long 0) 0 0 (replicate 5 7) []).answer ≡ refused 12) × ((opened (long 64) 0 0 (replicate 5 7) []).answer ≡ refused 4)
 unfolding opened open_refusal padded

@@ -9,8 +9,8 @@ use Rattle.lists.specs.Answers.{first}
 use Rattle.lists.specs.AnswersLaws.{clear}
 use Rattle.lists.specs.ChoiceLaws.{same-reply}
 use Rattle.entry.specs.Format.{chunk_sum}
-use Rattle.buffered.specs.declared.seek.SeekFrom.{SeekFrom}
-use Rattle.buffered.specs.declared.seek.SeekFrom.TheVariants.{Start, End, Current}
+use Rattle.std.specs.declared.io.SeekFrom.{SeekFrom}
+use Rattle.std.specs.declared.io.SeekFrom.TheVariants.{Start, End, Current}
 use Rattle.buffered.specs.Seek.{place_of}
 use Rattle.log_file.specs.declared.LogFileWriter.{LogFileWriter}
 use Rattle.log_file.specs.State.{Machine}

@@ -1,19 +1,18 @@
 -- What each call of a writer answers and leaves (document 01, "The writer"), for any state and any buffers: `called`. The laws are in `CallsLaws`.
 use Rattle.std.specs.Prelude.{ℕ, ◌+◌, ◌-◌, min, Bool, true, false, not, List, [], ◌∷◌, length, take, ltb}
 use Rattle.lists.specs.Answers.{Answer, Check, ◌⇒◌, first, reply, obey}
-use Rattle.little_endian.specs.LittleEndian.{le}
+use Rattle.lists.specs.Numbers.{le}
 use Rattle.crc32c.specs.Crc.{crc_append}
 use Rattle.entry.specs.Format.{version, chunk_sum}
 use Rattle.buffered.specs.declared.Buffered.{Buffered}
-use Rattle.buffered.specs.declared.seek.SeekFrom.{SeekFrom}
+use Rattle.std.specs.declared.io.SeekFrom.{SeekFrom}
 use Rattle.buffered.specs.Seek.{target, misses, place_of}
 use Rattle.buffered.specs.Staging.{Store, flushed, written_all, back_to, synchronized}
-use Rattle.log_file.specs.declared.LastId.{LastId}
-use Rattle.log_file.specs.declared.LastId.TheVariants.{Nothing, Of}
+use Rattle.std.specs.Prelude.{Option, Some, None}
 use Rattle.log_file.specs.declared.Moment.{Moment}
 use Rattle.log_file.specs.declared.Moment.TheVariants.{Idle, InEntry, InChunk}
 use Rattle.log_file.specs.declared.LogFileWriter.{LogFileWriter}
-use Rattle.log_file.specs.State.{Machine, machine, store_of, position, valid_with, valid}
+use Rattle.log_file.specs.State.{Machine, machine, store_of, position, valid}
 
 pub data Call : Type 0 where
   begin_entry : (id : ℕ) → Call
@@ -84,10 +83,6 @@ checks w (landing from) = (misses w.size (target from w.file.length (position w)
 unfoldable pub refusal : Machine → Call → ℕ
 refusal m c = first ((not (valid m) ⇒ 12) ∷ checks m.writer c)
 
--- the same, by the lengths of the buffers alone
-abbrev pub refusal_with : LogFileWriter → (image staging : ℕ) → Call → ℕ
-refusal_with w image staging c = first ((not (valid_with w image staging) ⇒ 12) ∷ checks w c)
-
 -- ---- what an accepted call reports
 
 unfoldable pub reports : LogFileWriter → Call → List ℕ
@@ -109,7 +104,7 @@ abbrev pub heading : (info : List ℕ) → List (List ℕ)
 heading info = (0x6F ∷ 0x6B ∷ 0x77 ∷ version ∷ []) ∷ (length info ∷ []) ∷ info ∷ []
 
 abbrev pub info_of : LogFileWriter → List ℕ
-info_of w = take w.v w.info
+info_of w = take w.info_length w.info
 
 unfoldable pub writes : LogFileWriter → Call → List (List ℕ)
 writes w (begin_entry id) = (1 ∷ []) ∷ le 8 id ∷ []
@@ -166,14 +161,14 @@ moment_after w flush = w.moment
 moment_after w (synchronize t) = w.moment
 moment_after w (landing from) = w.moment
 
-unfoldable pub last_after : LogFileWriter → Call → LastId
+unfoldable pub last_after : LogFileWriter → Call → Option ℕ
 last_after w (begin_entry id) = w.last
 last_after w (begin_chunk n) = w.last
 last_after w (write offered) = w.last
 last_after w finish = w.last
-last_after w commit = Of (entry_id w.moment)
+last_after w commit = Some (entry_id w.moment)
 last_after w rollback = w.last
-last_after w (recycle id) = Nothing
+last_after w (recycle id) = None
 last_after w flush = w.last
 last_after w (synchronize t) = w.last
 last_after w (landing from) = w.last
@@ -191,9 +186,9 @@ id_after w (synchronize t) = w.id
 id_after w (landing from) = w.id
 
 -- the writer with other numbers, and what is never changed
-abbrev pub rewritten : LogFileWriter → (id : ℕ) → Buffered → LastId → Moment → LogFileWriter
+abbrev pub rewritten : LogFileWriter → (id : ℕ) → Buffered → Option ℕ → Moment → LogFileWriter
 rewritten w id file last moment =
-    record { id = id; info = w.info; v = w.v; size = w.size; capacity = w.capacity; file = file; last = last; moment = moment }
+    record { id = id; info = w.info; info_length = w.info_length; size = w.size; capacity = w.capacity; file = file; last = last; moment = moment }
 
 unfoldable pub acted : Machine → Call → Machine
 acted m c =

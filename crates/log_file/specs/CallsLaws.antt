@@ -10,7 +10,7 @@ use borrow.Author.Tests.{leb-true, le-leb, ltb-false, not-false}
 use Rattle.lists.specs.Answers.{number_of, Check, ◌⇒◌, first}
 use Rattle.lists.specs.AnswersLaws.{Clear, clear, Every}
 use Rattle.lists.specs.ChoiceLaws.{obeyed, refusal-keeps, number-reply}
-use Rattle.little_endian.specs.LittleEndianLaws.{length-le}
+use Rattle.lists.specs.NumbersLaws.{length-le}
 use Rattle.buffered.specs.Staging.{Store, logical, logical_position, back_to}
 use Rattle.buffered.specs.StagingLaws.{Reads, Sizes, same-position, flush-reads, sync-reads, back-reads, flush-wrote, written_all-wrote, back-sizes, sync-sizes, sizes-none, sizes-both}
 use Rattle.buffered.proofs.WrittenReads.{written_all-reads}
@@ -115,7 +115,7 @@ valid-reads m v =
 -- w at another moment
 abbrev moved : LogFileWriter → Moment → LogFileWriter
 moved w now =
-    record { id = w.id; info = w.info; v = w.v; size = w.size; capacity = w.capacity; file = w.file; last = w.last; moment = now }
+    record { id = w.id; info = w.info; info_length = w.info_length; size = w.size; capacity = w.capacity; file = w.file; last = w.last; moment = now }
 
 -- after the accepted call, the moment's rules hold at the length of the segment that it makes of bs
 module _ (w : LogFileWriter) (bs : List ℕ) (p : position w ≡ length bs) where
@@ -234,7 +234,7 @@ called-segment m c e =
 
 pub record Kept (m m' : Machine) : Type 0 where
   pub info : m'.writer.info ≡ m.writer.info
-  pub v : m'.writer.v ≡ m.writer.v
+  pub info_length : m'.writer.info_length ≡ m.writer.info_length
   pub size : m'.writer.size ≡ m.writer.size
   pub capacity : m'.writer.capacity ≡ m.writer.capacity
   pub buffers : Sizes (store_of m) (store_of m')
@@ -243,8 +243,8 @@ pub called-kept : (m : Machine) (c : Call) → Kept m (called m c).machine'
 unfolding called acted
 called-kept m c =
     obeyed (λ u. Kept m u) (refusal m c) m (acted m c)
-    (record { info = refl; v = refl; size = refl; capacity = refl; buffers = sizes-none (store_of m) })
-    (λ e. record { info = refl; v = refl; size = refl; capacity = refl; buffers = worked-sizes m.writer c (store_of m) })
+    (record { info = refl; info_length = refl; size = refl; capacity = refl; buffers = sizes-none (store_of m) })
+    (λ e. record { info = refl; info_length = refl; size = refl; capacity = refl; buffers = worked-sizes m.writer c (store_of m) })
 
 -- ---- a rollback changes no byte of image or staging
 

@@ -4,11 +4,10 @@
 use Rattle.std.specs.Prelude.{ℕ, suc, ◌+◌, ◌-◌, Bool, true, false, not, length, take, ltb, pos, negsuc}
 use mathlib.Core.List.{List, [], ◌∷◌, ◌++◌, flat_map}
 use Rattle.lists.specs.Answers.{Answer, Check, ◌⇒◌, first, reply, obey}
-use Rattle.little_endian.specs.LittleEndian.{le}
+use Rattle.lists.specs.Numbers.{le}
 use Rattle.entry.specs.Format.{Entry, chunk_sum, chunk, segment}
-use Rattle.buffered.specs.declared.seek.SeekFrom.TheVariants.{Start, End, Current}
-use Rattle.log_file.specs.declared.LastId.{LastId}
-use Rattle.log_file.specs.declared.LastId.TheVariants.{Nothing, Of}
+use Rattle.std.specs.declared.io.SeekFrom.TheVariants.{Start, End, Current}
+use Rattle.std.specs.Prelude.{Option, Some, None}
 use Rattle.log_file.specs.declared.Moment.{Moment}
 use Rattle.log_file.specs.declared.Moment.TheVariants.{Idle, InEntry, InChunk}
 use Rattle.log_file.specs.Calls.{Call, begin_entry, begin_chunk, write, finish, commit, rollback, flush, recycle, synchronize, landing}
@@ -22,11 +21,11 @@ pub data Open : Type 0 where
 pub record History : Type 0 where
   pub info : List ℕ
   pub id : ℕ
-  pub last : LastId
+  pub last : Option ℕ
   pub committed : List Entry
   pub pending : Open
 
-abbrev pub fresh : (info : List ℕ) (id : ℕ) → LastId → History
+abbrev pub fresh : (info : List ℕ) (id : ℕ) → Option ℕ → History
 fresh info id last = record { info = info; id = id; last = last; committed = []; pending = nothing }
 
 -- ---- its bytes: the segment of the committed entries, then the first part of an entry, then that of a chunk
@@ -85,7 +84,7 @@ with_entry h (an_entry id chunks) =
     record {
       info = h.info;
       id = h.id;
-      last = Of id;
+      last = Some id;
       committed = h.committed ++ (record { id = id; chunks = chunks } ∷ []);
       pending = nothing;
     }
@@ -98,7 +97,7 @@ grow h (write offered) = with_open h (with_bytes offered h.pending)
 grow h finish = with_open h (finished h.pending)
 grow h commit = with_entry h h.pending
 grow h rollback = with_open h nothing
-grow h (recycle id) = fresh h.info id Nothing
+grow h (recycle id) = fresh h.info id None
 grow h flush = h
 grow h (synchronize t) = h
 grow h (landing from) = h

@@ -4,8 +4,8 @@ use Rattle.std.proofs.Common.{arith, ap, sym, ◌∙◌, length-append, length-t
 use mathlib.Core.List.{List, [], ◌∷◌, ◌++◌, append_assoc, append-nil, flat_map}
 use Rattle.std.proofs.Math.Seq.{take-nil}
 use Rattle.lists.specs.TakeLaws.{take-append}
-use Rattle.little_endian.specs.LittleEndian.{le}
-use Rattle.little_endian.specs.LittleEndianLaws.{length-le}
+use Rattle.lists.specs.Numbers.{le}
+use Rattle.lists.specs.NumbersLaws.{length-le}
 use Rattle.crc32c.specs.Crc.{crc_append}
 use Rattle.crc32c.specs.CrcLaws.{crc_append-append}
 use Rattle.entry.specs.Format.{header, covered, chunk_sum, chunk, Entry, entry, segment}

@@ -9,7 +9,7 @@ use Rattle.lists.specs.AnswersLaws.{clear}
 use Rattle.lists.specs.ChoiceLaws.{obeyed}
 use Rattle.lists.specs.All.{All}
 use Rattle.entry.specs.Writable.{Writable}
-use Rattle.log_file.specs.declared.LastId.{LastId}
+use Rattle.std.specs.Prelude.{Option}
 use Rattle.log_file.specs.Calls.{Call, begin_entry, begin_chunk, write, finish, commit, rollback, flush, recycle, synchronize, landing}
 use Rattle.log_file.specs.History.{Open, nothing, an_entry, a_chunk, History, fresh, with_open, grow, causes, next}
 
@@ -99,7 +99,7 @@ module _ (n : ℕ) (h : History) (es : All (Writable h.id) h.committed) where
   grow-ranged (synchronize t) = λ a r e. record { committed = es; pending = r }
   grow-ranged (landing from) = λ a r e. record { committed = es; pending = r }
 
-pub fresh-ranged : (info : List ℕ) (id : ℕ) (last : LastId) → AllRanged (fresh info id last)
+pub fresh-ranged : (info : List ℕ) (id : ℕ) (last : Option ℕ) → AllRanged (fresh info id last)
 fresh-ranged info id last = record { committed = tt; pending = tt }
 
 pub next-ranged : (n : ℕ) (h : History) (c : Call) → Argued c → AllRanged h → AllRanged (next n h c)

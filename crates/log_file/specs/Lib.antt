@@ -1,9 +1,11 @@
--- In order: a writer's rules and its calls; opening it; its plain reads; what happened since opening, by the format; that a writer shows just this.
+-- In order: a writer's rules and its calls; opening it; its plain reads; what happened since opening, by the format; that a writer shows just this; all of it, as `laws` promises it.
 pub mod State
 pub mod StateLaws
 pub mod Calls
 pub mod CallsLaws
 pub mod Promises
+pub mod Step
+pub mod StepLaws
 pub mod Opening
 pub mod OpeningLaws
 pub mod PromisesLaws
@@ -16,3 +18,4 @@ pub mod Shows
 pub mod ShowsAnswers
 pub mod ShowsNext
 pub mod ShowsLaws
+pub mod Laws

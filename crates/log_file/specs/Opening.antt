@@ -1,22 +1,22 @@
 -- Opening a writer (document 01, "The writer", opening; "Numbers of refusal": 12, 4, 5).
-use Rattle.std.specs.Prelude.{ℕ, zero, suc, ◌+◌, ◌-◌, ◌*◌, ◌/◌, max, ◌≡◌, List, [], ◌∷◌, ◌++◌, length, replicate, ltb}
+use Rattle.std.specs.Prelude.{ℕ, zero, suc, ◌+◌, ◌-◌, ◌*◌, ◌/◌, max, ◌≡◌, List, [], ◌∷◌, ◌++◌, length, replicate, ltb, Result}
 use Rattle.lists.specs.Lay.{lay}
 use Rattle.lists.specs.Answers.{Check, ◌⇒◌, first, reply, obey}
 use Rattle.entry.specs.Format.{largest_image}
 use Rattle.buffered.specs.Staging.{Store, store, flushed, written_all}
-use Rattle.log_file.specs.declared.LastId.{LastId}
-use Rattle.log_file.specs.declared.LastId.TheVariants.{Nothing}
+use Rattle.std.specs.Prelude.{Option, None}
 use Rattle.log_file.specs.declared.Moment.TheVariants.{Idle}
 use Rattle.log_file.specs.declared.LogFileWriter.{LogFileWriter}
-use Rattle.log_file.specs.declared.Answered.{Answered}
+use Rattle.entry.specs.declared.Refusal.{Refusal}
+use Rattle.entry.specs.Refusal.{answer_of}
 use Rattle.log_file.specs.State.{Machine, machine}
 use Rattle.log_file.specs.Calls.{Called, after, heading}
-use Rattle.log_file.specs.Promises.{answered_as}
+use Rattle.log_file.specs.Promises.{no_values}
 
 -- the terms of an opening: id, last id, version info, preallocation. Demand 3 speaks of two fresh openings on equal terms
 pub record Terms : Type 0 where
   pub id : ℕ
-  pub last : LastId
+  pub last : Option ℕ
   pub info : List ℕ
   pub preallocate : ℕ
 
@@ -67,7 +67,7 @@ opened_machine o l f image staging =
     (record {
       id = o.id;
       info = kept o.info;
-      v = length o.info;
+      info_length = length o.info;
       size = length image;
       capacity = length staging;
       file = s.file;
@@ -82,11 +82,11 @@ blank =
     record {
       id = 0;
       info = replicate 255 0;
-      v = 0;
+      info_length = 0;
       size = 0;
       capacity = 0;
       file = record { length = 0; position = 0; staged = 0; synchronized = 0 };
-      last = Nothing;
+      last = None;
       moment = Idle;
     }
 
@@ -97,9 +97,13 @@ opened o l f image staging =
 
 -- ---- what `open` may answer and leave
 
-abbrev pub terms : (id : ℕ) → LastId → (info : List ℕ) → (preallocate : ℕ) → Terms
+abbrev pub terms : (id : ℕ) → Option ℕ → (info : List ℕ) → (preallocate : ℕ) → Terms
 terms id last info p = record { id = id; last = last; info = info; preallocate = p }
 
-abbrev pub OpenAllows : Terms → (validated file_length : ℕ) → (image staging : List ℕ) → Answered → (image' staging' : List ℕ) → Type 0
-OpenAllows o l f image staging r image' staging' =
-    after (answered_as r.answer) (machine r.writer image' staging') ≡ opened o l f image staging
+abbrev pub OpenAllows : Terms → (validated file_length : ℕ) → (image staging : List ℕ) → Result (Unit {0}) Refusal → LogFileWriter → (image' staging' : List ℕ) → Type 0
+OpenAllows o l f image staging r w' image' staging' =
+    after (answer_of no_values r) (machine w' image' staging') ≡ opened o l f image staging
+
+-- and what a refused one leaves, by itself
+abbrev pub IsBlank : LogFileWriter → Type 0
+IsBlank w = w ≡ blank

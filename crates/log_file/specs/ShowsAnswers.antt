@@ -6,8 +6,8 @@ use Rattle.std.proofs.Math.Path.{◌≡◌, refl}
 use mathlib.Core.List.{[], ◌∷◌}
 use Rattle.std.proofs.Math.ListN.{length}
 use Rattle.lists.specs.Answers.{◌⇒◌, first}
-use Rattle.buffered.specs.declared.seek.SeekFrom.{SeekFrom}
-use Rattle.buffered.specs.declared.seek.SeekFrom.TheVariants.{Start, End, Current}
+use Rattle.std.specs.declared.io.SeekFrom.{SeekFrom}
+use Rattle.std.specs.declared.io.SeekFrom.TheVariants.{Start, End, Current}
 use Rattle.buffered.specs.Seek.{misses}
 use Rattle.log_file.specs.declared.LogFileWriter.{LogFileWriter}
 use Rattle.log_file.specs.State.{position}

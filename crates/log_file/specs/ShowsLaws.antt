@@ -6,7 +6,7 @@ use Rattle.std.proofs.Common.{add-zero, arith, sym, ◌∙◌, append-nil, le-lt
 use Rattle.lists.specs.Answers.{number_of, first}
 use Rattle.lists.specs.ChoiceLaws.{obeyed, obeyed-both}
 use Rattle.entry.specs.Format.{segment}
-use Rattle.buffered.specs.declared.seek.SeekFrom.TheVariants.{Start, End, Current}
+use Rattle.std.specs.declared.io.SeekFrom.TheVariants.{Start, End, Current}
 use Rattle.buffered.specs.StagingLaws.{Reads, same-position}
 use Rattle.log_file.specs.declared.Moment.TheVariants.{Idle}
 use Rattle.log_file.specs.State.{Machine, store_of, position}

@@ -28,9 +28,9 @@ position w = logical_position w.file
 -- 5 + v ≤ image size
 abbrev pub number_rules : LogFileWriter → List Bool
 number_rules w =
-    leb w.size largest_image ∷ leb w.capacity 65536 ∷ leb w.v 255 ∷ leb w.file.staged w.capacity
+    leb w.size largest_image ∷ leb w.capacity 65536 ∷ leb w.info_length 255 ∷ leb w.file.staged w.capacity
     ∷ leb w.file.synchronized w.file.position ∷ leb w.file.position w.file.length ∷ leb w.file.length w.size
-    ∷ leb (5 + w.v) w.size ∷ []
+    ∷ leb (5 + w.info_length) w.size ∷ []
 
 -- what an open entry or chunk may still ask for: an end mark; bytes owed, a sum and an end mark
 abbrev pub reserve : Moment → ℕ

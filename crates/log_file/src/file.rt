@@ -1,199 +1,124 @@
-// The calls on the segment as a whole (okaywal's log_file.rs): recycle, flush, synchronize, seek, and the plain reads of a state.
-ghost use Rattle.std.specs.Prelude.{◌≡◌, ◌+◌, ◌≤◌, length};
+//! The calls on the segment as a whole (okaywal's log_file.rs): recycle, flush, synchronize, seek, and the plain reads of a state.
+#![tactic(auto, unfolding(crate::specs::State::ruled, crate::specs::State::valid, crate::specs::Calls::checks, crate::specs::Calls::refusal, crate::specs::Calls::reports, crate::specs::Calls::writes, crate::specs::Calls::worked, crate::specs::Calls::moment_after, crate::specs::Calls::last_after, crate::specs::Calls::id_after, crate::specs::Calls::acted, crate::specs::Calls::called, buffered::specs::Staging::written_all, buffered::specs::Staging::back_to, crate::specs::Reads::read))]
+
+ghost use Rattle.std.specs.Prelude.{◌≡◌, ◌+◌, ◌≤◌, length, OnErr};
 ghost use Rattle.buffered.specs.Staging.{store, written_all, Room};
-ghost use Rattle.log_file.specs.State.{machine};
-ghost use Rattle.log_file.specs.Calls.{heading, recycle as recycling, flush as flushing, landing, refusal_with, acted};
-ghost use Rattle.log_file.specs.Promises.{RecycleAllows, FlushAllows, SynchronizeAllows, SeekAllows};
-ghost use Rattle.log_file.specs.Reads.{PositionAllows, BufferPositionAllows, IsSynchronizedAllows, LastEntryIdAllows};
+ghost use Rattle.log_file.specs.Calls.{heading};
 
-use crate::{Answer, Answered, LastId, LogFileWriter, Moment};
+use crate::{LogFileWriter, Moment};
 use buffered::Buffered;
-use buffered::seek::{Landing, SeekFrom};
+use entry::{EntryId, Refusal};
+use std::io::SeekFrom;
 
-// A number of the state.
-#[derive(Clone, Copy)]
-pub enum Number {
-    Of(usize),
-    Refused(u8),
-}
-
-#[derive(Clone, Copy)]
-pub enum Flag {
-    Yes,
-    No,
-    Refused(u8),
-}
-
-#[derive(Clone, Copy)]
-pub enum LastAnswer {
-    Last(LastId),
-    Refused(u8),
-}
-
-// ---- the moment does not matter, or is idle
-
-#[tactic(auto, unfolding(crate::specs::Calls::checks))]
-fn any_refusal(w: LogFileWriter, image: usize, staging: usize) -> u8
-    ensures { result ≡ refusal_with w image staging flushing }
+// The header in its three writes: the mark and version 0, the length byte, the version info. It stores without a test, as `head` does: their callers test,
+// and require nothing (`RecycleAllows`, `OpenAllows`).
+pub(crate) fn put_header(file: &mut Buffered, image: &mut [u8], staging: &mut [u8], info: &[u8])
+    requires { Room (store image.old staging.old file.old) (5 + length info.now) × (length info.now ≤ 255) }
+    ensures written { store image.new staging.new file.new ≡ written_all (store image.old staging.old file.old) (heading info.now) }
+    ensures room { Room (store image.new staging.new file.new) 0 }
 {
-    lists::refuse_if(!crate::is_valid(w, image, staging), 12, 0)
+    file.write_both(image, staging, &[0x6f, 0x6b, 0x77, 0], &[info.len() as u8]);
+    file.write(image, staging, info);
 }
 
-#[tactic(auto, unfolding(crate::specs::Calls::checks))]
-fn idle_refusal(w: LogFileWriter, image: usize, staging: usize) -> u8
-    ensures { result ≡ refusal_with w image staging (recycling 0) }
-{
-    let m = w.moment;
-    let now = lists::refuse_if(!crate::is_idle(m), 6, 0);
-    lists::refuse_if(!crate::is_valid(w, image, staging), 12, now)
-}
+impl LogFileWriter {
+    ghost use Rattle.log_file.specs.Promises.{RecycleAllows, FlushAllows, SynchronizeAllows, SeekAllows, IsUnchanged};
+    ghost use Rattle.log_file.specs.Reads.{PositionAllows, BufferPositionAllows, IsSynchronizedAllows, LastEntryIdAllows};
 
-// ---- recycle
-
-#[tactic(auto, unfolding(crate::specs::Calls::acted, crate::specs::Calls::worked, crate::specs::Calls::writes, crate::specs::Calls::id_after, crate::specs::Calls::last_after, crate::specs::Calls::moment_after, buffered::specs::Staging::written_all, buffered::specs::Staging::back_to))]
-fn segment_recycled(
-    w: LogFileWriter,
-    image: &mut [u8],
-    staging: &mut [u8],
-    id: u64,
-) -> LogFileWriter
-    requires { (w.v ≤ 255) × (5 + w.v ≤ length image.old) }
-    ensures { machine result image.new staging.new ≡ acted (machine w image.old staging.old) (recycling id) }
-{
-    let file = w.file;
-    let start = file.back_to(0);
-    let info = w.info;
-    let v = w.v;
-    let next = crate::put_header(start, image, staging, &info[..v]);
-    crate::rewrite(w, id, next, LastId::Nothing, Moment::Idle)
-}
-
-// Begins the segment anew under another id: everything is dropped, and the header is written but not flushed. Refused with 12, 6 unless idle.
-#[tactic(auto, unfolding(crate::specs::Calls::called, crate::specs::Calls::refusal, crate::specs::State::valid, crate::specs::Calls::reports, crate::specs::Calls::checks))]
-pub fn recycle(w: LogFileWriter, image: &mut [u8], staging: &mut [u8], id: u64) -> Answered
-    ensures { RecycleAllows w image.old staging.old id result image.new staging.new }
-{
-    let no = idle_refusal(w, image.len(), staging.len());
-    if no != 0 {
-        return Answered {
-            writer: w,
-            answer: Answer::Refused(no),
+    /// Begins the segment anew under another id: everything is dropped, and the header is written but not flushed. Refused with `OutOfRange`, `NotNow`
+    /// unless idle.
+    pub fn recycle(&mut self, image: &mut [u8], staging: &mut [u8], id: u64) -> Result<(), Refusal>
+        ensures allows { RecycleAllows self.old image.old staging.old id result self.new image.new staging.new }
+        ensures refused { OnErr result (IsUnchanged self.old image.old staging.old self.new image.new staging.new) }
+    {
+        self.check(image, staging)?;
+        let Moment::Idle = self.moment else {
+            return Err(Refusal::NotNow);
         };
+        self.file.back_to(0);
+        put_header(
+            &mut self.file,
+            image,
+            staging,
+            &self.info[..self.info_length],
+        );
+        self.id = id;
+        self.last = None;
+        Ok(())
     }
-    Answered {
-        writer: segment_recycled(w, image, staging, id),
-        answer: Answer::Accepted,
-    }
-}
 
-// ---- flush and synchronize
-
-// Staged bytes go to the image. Refused with 12.
-#[tactic(auto, unfolding(crate::specs::Calls::called, crate::specs::Calls::refusal, crate::specs::State::valid, crate::specs::Calls::reports, crate::specs::Calls::checks, crate::specs::Calls::acted, crate::specs::Calls::worked, crate::specs::Calls::writes, crate::specs::Calls::id_after, crate::specs::Calls::last_after, crate::specs::Calls::moment_after))]
-pub fn flush(w: LogFileWriter, image: &mut [u8], staging: &mut [u8]) -> Answered
-    ensures { FlushAllows w image.old staging.old result image.new staging.new }
-{
-    let no = any_refusal(w, image.len(), staging.len());
-    if no != 0 {
-        return Answered {
-            writer: w,
-            answer: Answer::Refused(no),
-        };
+    /// Staged bytes go to the image. Refused with `OutOfRange`.
+    pub fn flush(&mut self, image: &mut [u8], staging: &mut [u8]) -> Result<(), Refusal>
+        ensures allows { FlushAllows self.old image.old staging.old result self.new image.new staging.new }
+        ensures refused { OnErr result (IsUnchanged self.old image.old staging.old self.new image.new staging.new) }
+    {
+        self.check(image, staging)?;
+        self.file.flush(image, staging);
+        Ok(())
     }
-    let file = w.file;
-    let next = file.flush(image, staging);
-    let last = w.last;
-    let m = w.moment;
-    Answered {
-        writer: crate::rewrite(w, w.id, next, last, m),
-        answer: Answer::Accepted,
-    }
-}
 
-// Notes that everything below the file position is on the device, after a flush where t lies past that; nothing where so much as t is noted already. A
-// t past the end is allowed. Refused with 12.
-#[tactic(auto, unfolding(crate::specs::Calls::called, crate::specs::Calls::refusal, crate::specs::State::valid, crate::specs::Calls::reports, crate::specs::Calls::checks, crate::specs::Calls::acted, crate::specs::Calls::worked, crate::specs::Calls::writes, crate::specs::Calls::id_after, crate::specs::Calls::last_after, crate::specs::Calls::moment_after))]
-pub fn synchronize(w: LogFileWriter, image: &mut [u8], staging: &mut [u8], t: u64) -> Answered
-    ensures { SynchronizeAllows w image.old staging.old t result image.new staging.new }
-{
-    let no = any_refusal(w, image.len(), staging.len());
-    if no != 0 {
-        return Answered {
-            writer: w,
-            answer: Answer::Refused(no),
-        };
+    /// Notes that everything below the file position is on the device, after a flush where target lies past that; nothing where so much as target is
+    /// noted already. A target past the end is allowed. Refused with `OutOfRange`.
+    pub fn synchronize(
+        &mut self,
+        image: &mut [u8],
+        staging: &mut [u8],
+        target: u64,
+    ) -> Result<(), Refusal>
+        ensures allows { SynchronizeAllows self.old image.old staging.old target result self.new image.new staging.new }
+        ensures refused { OnErr result (IsUnchanged self.old image.old staging.old self.new image.new staging.new) }
+    {
+        self.check(image, staging)?;
+        self.file.synchronize(image, staging, target);
+        Ok(())
     }
-    let file = w.file;
-    let next = file.synchronize(image, staging, t);
-    let last = w.last;
-    let m = w.moment;
-    Answered {
-        writer: crate::rewrite(w, w.id, next, last, m),
-        answer: Answer::Accepted,
+
+    /// Where a seek would land: counted from 0, the file length or the logical position. Refused with `OutOfRange`, `OutsideImage` below 0 or past the
+    /// image size.
+    #[inline(always)]
+    pub fn seek(&self, image: &[u8], staging: &[u8], from: SeekFrom) -> Result<u64, Refusal>
+        ensures { SeekAllows self.now image.now staging.now from result }
+    {
+        self.check(image, staging)?;
+        let position = self.file.position + self.file.staged;
+        buffered::seek::seek(
+            from,
+            self.file.length as u64,
+            position as u64,
+            self.size as u64,
+        )
+        .ok_or(Refusal::OutsideImage)
     }
-}
 
-// ---- landing places
-
-// Where a seek would land: counted from 0, the file length or the logical position. Refused with 12, 11 below 0 or past the image size.
-#[tactic(auto, unfolding(crate::specs::Calls::called, crate::specs::Calls::refusal, crate::specs::State::valid, crate::specs::Calls::reports, crate::specs::Calls::checks, crate::specs::Calls::acted, crate::specs::Calls::worked, crate::specs::Calls::writes, crate::specs::Calls::id_after, crate::specs::Calls::last_after, crate::specs::Calls::moment_after))]
-pub fn seek(w: LogFileWriter, image: &[u8], staging: &[u8], from: SeekFrom) -> Landing
-    ensures { SeekAllows w image.now staging.now from result }
-{
-    let no = any_refusal(w, image.len(), staging.len());
-    if no != 0 {
-        return Landing::Refused(no);
+    /// The logical position. No buffers are brought, so `OutOfRange` is for the state's own rules, here and in the three reads below.
+    pub fn position(&self) -> Result<usize, Refusal>
+        ensures { PositionAllows self.now result }
+    {
+        self.check_rules()?;
+        Ok(self.file.position + self.file.staged)
     }
-    let position = w.file.position + w.file.staged;
-    buffered::seek::seek(from, w.file.length as u64, position as u64, w.size as u64)
-}
 
-// ---- plain reads: no buffers are brought, so 12 is for the state's own rules
-
-// The logical position.
-#[tactic(auto, unfolding(crate::specs::Reads::read))]
-pub fn position(w: LogFileWriter) -> Number
-    ensures { PositionAllows w result }
-{
-    if crate::rules_hold(w) {
-        return Number::Of(w.file.position + w.file.staged);
+    /// The file position.
+    pub fn buffer_position(&self) -> Result<usize, Refusal>
+        ensures { BufferPositionAllows self.now result }
+    {
+        self.check_rules()?;
+        Ok(self.file.position)
     }
-    Number::Refused(12)
-}
 
-// The file position.
-#[tactic(auto, unfolding(crate::specs::Reads::read))]
-pub fn buffer_position(w: LogFileWriter) -> Number
-    ensures { BufferPositionAllows w result }
-{
-    if crate::rules_hold(w) {
-        return Number::Of(w.file.position);
+    /// Whether everything up to the logical position is on the device.
+    pub fn is_synchronized(&self) -> Result<bool, Refusal>
+        ensures { IsSynchronizedAllows self.now result }
+    {
+        self.check_rules()?;
+        Ok(self.file.position + self.file.staged == self.file.synchronized)
     }
-    Number::Refused(12)
-}
 
-// Whether everything up to the logical position is on the device.
-#[tactic(auto, unfolding(crate::specs::Reads::read))]
-pub fn is_synchronized(w: LogFileWriter) -> Flag
-    ensures { IsSynchronizedAllows w result }
-{
-    if crate::rules_hold(w) {
-        if w.file.position + w.file.staged == w.file.synchronized {
-            return Flag::Yes;
-        }
-        return Flag::No;
+    /// The id of the last entry that was committed.
+    pub fn last_entry_id(&self) -> Result<Option<EntryId>, Refusal>
+        ensures { LastEntryIdAllows self.now result }
+    {
+        self.check_rules()?;
+        Ok(self.last)
     }
-    Flag::Refused(12)
-}
-
-// The id of the last entry that was committed.
-#[tactic(auto, unfolding(crate::specs::Reads::read))]
-pub fn last_entry_id(w: LogFileWriter) -> LastAnswer
-    ensures { LastEntryIdAllows w result }
-{
-    if crate::rules_hold(w) {
-        let last = w.last;
-        return LastAnswer::Last(last);
-    }
-    LastAnswer::Refused(12)
 }

@@ -1,269 +1,160 @@
-// The segment writer (okaywal's log_file.rs and entry.rs): the state by value, image and staging lent. Every call answers any state, any buffers and
-// any arguments: with what it did, or with the number of its refusal, and then nothing has changed.
+//! The segment writer (okaywal's log_file.rs and entry.rs): the state in one value, image and staging lent. Every call answers any state, any buffers
+//! and any arguments: with what it did, or with why it is refused, and then nothing has changed. A refused
+//! opening leaves a state of zeros.
 #![tactic(auto)]
 
-ghost use Rattle.std.specs.Prelude.{◌≡◌, length, ◌+◌, ◌≤◌};
+ghost use Rattle.std.specs.Prelude.{◌≡◌, length, ◌+◌, leb, IfOk, IfErr, true, false};
+ghost use Rattle.entry.specs.declared.Refusal.TheVariants.{OutOfRange};
 ghost use Rattle.lists.specs.Answers.{all};
-ghost use Rattle.buffered.specs.Staging.{store, written_all, Room};
-ghost use Rattle.log_file.specs.State.{number_rules, reserve, open_rules, moment_rules, ruled, valid_with};
-ghost use Rattle.log_file.specs.Calls.{heading, rewritten, is_idle, in_entry, in_chunk, entry_id, entry_start, length_of, owed_of, sum_of};
 
 use buffered::Buffered;
+use entry::{EntryId, LARGEST_IMAGE, Refusal};
 
+pub mod calls;
 pub mod entries;
 pub mod file;
+pub mod laws;
 pub mod opening;
+pub mod segment;
 
-// The id of the last entry that was committed.
-#[derive(Clone, Copy)]
-pub enum LastId {
-    Nothing,
-    Of(u64),
-}
+/// The largest staging.
+pub const LARGEST_STAGING: usize = 65_536;
 
-// Idle, in an entry that knows its start, or in a chunk of n bytes that knows its entry, the bytes it owes and the sum of those it got.
-#[derive(Clone, Copy)]
+/// The longest version info.
+pub const MOST_INFO: usize = 255;
+
+// Kept: three cases, two of them with numbers, have neither Option's nor Result's shape.
+/// Idle, in an entry that knows its start, or in a chunk that knows its length, its entry, the bytes it owes and the sum of those it got.
+#[derive(Clone, Copy, Debug, PartialEq, Eq)]
 pub enum Moment {
     Idle,
     InEntry {
-        id: u64,
+        id: EntryId,
         start: usize,
     },
     InChunk {
-        id: u64,
+        id: EntryId,
         start: usize,
-        n: u32,
+        length: u32,
         owed: u32,
         crc: u32,
     },
 }
 
-#[derive(Clone, Copy)]
+/// A writer's whole state; the bytes are in the image and the staging, which are lent.
+// With no invariant: any numbers may stand in it, and every call answers them (`refused-keeps`, `valid-stays`).
+#[derive(Clone, Copy, Debug, PartialEq, Eq)]
 pub struct LogFileWriter {
-    // the segment's id
+    /// The segment's id.
     pub id: u64,
-    // the version info: its first v bytes
+    // An array with its length beside it: no heap below the programs, and what C lends are 255 bytes and a length.
+    /// The version info: its first bytes, as many as the next number says.
     pub info: [u8; 255],
-    pub v: usize,
-    // the sizes of image and staging at opening
+    pub info_length: usize,
+    /// The sizes of image and staging at opening.
     pub size: usize,
     pub capacity: usize,
     pub file: Buffered,
-    pub last: LastId,
+    /// The id of the last entry that was committed.
+    pub last: Option<EntryId>,
     pub moment: Moment,
 }
 
-#[derive(Clone, Copy)]
-pub enum Answer {
-    Accepted,
-    Refused(u8),
-}
-
-// The answer of a call that reports nothing.
-#[derive(Clone, Copy)]
-pub struct Answered {
-    pub writer: LogFileWriter,
-    pub answer: Answer,
-}
-
-// ---- the moment
-
-fn is_idle(m: Moment) -> bool
-    ensures { result ≡ is_idle m }
+// Whether a + b is at most limit; the sum is never formed.
+fn within(a: usize, b: usize, limit: usize) -> bool
+    ensures { result ≡ leb (a + b) limit }
 {
-    match m {
-        Moment::Idle => true,
-        Moment::InEntry { id: _, start: _ } => false,
-        Moment::InChunk {
-            id: _,
-            start: _,
-            n: _,
-            owed: _,
-            crc: _,
-        } => false,
+    a <= limit && b <= limit - a
+}
+
+impl Moment {
+    ghost use Rattle.log_file.specs.State.{reserve, open_rules};
+
+    // What an open entry or chunk may still ask for: an end mark; the bytes owed, a sum and an end mark.
+    fn reserve(self) -> usize
+        ensures { result ≡ reserve self }
+    {
+        match self {
+            Moment::Idle => 0,
+            Moment::InEntry { .. } => 1,
+            Moment::InChunk { owed, .. } => owed as usize + 5,
+        }
+    }
+
+    // Whether an open entry or chunk can have begun where it says, at this logical position.
+    fn is_open_at(self, position: usize) -> bool
+        ensures { result ≡ all (open_rules self position) }
+    {
+        match self {
+            Moment::Idle => true,
+            Moment::InEntry { start, .. } => within(start, 9, position),
+            Moment::InChunk {
+                start,
+                length,
+                owed,
+                ..
+            } => {
+                within(start, 9, position)
+                    && owed <= length
+                    && within(start, 14 + (length - owed) as usize, position)
+            }
+        }
     }
 }
 
-fn in_entry(m: Moment) -> bool
-    ensures { result ≡ in_entry m }
-{
-    match m {
-        Moment::Idle => false,
-        Moment::InEntry { id: _, start: _ } => true,
-        Moment::InChunk {
-            id: _,
-            start: _,
-            n: _,
-            owed: _,
-            crc: _,
-        } => false,
+impl LogFileWriter {
+    ghost use Rattle.log_file.specs.State.{ruled, valid_with};
+
+    // Whether the state keeps its own rules. Any numbers at all may stand in it: no sum is formed that could wrap.
+    #[tactic(auto, unfolding(crate::specs::State::ruled))]
+    #[inline(always)]
+    fn has_rules(&self) -> bool
+        ensures { result ≡ ruled self.now }
+    {
+        let numbers = self.size <= LARGEST_IMAGE
+            && self.capacity <= LARGEST_STAGING
+            && self.info_length <= MOST_INFO
+            && self.file.staged <= self.capacity
+            && self.file.synchronized <= self.file.position
+            && self.file.position <= self.file.length
+            && self.file.length <= self.size
+            && within(5, self.info_length, self.size);
+        if !numbers {
+            return false;
+        }
+        let position = self.file.position + self.file.staged;
+        within(position, self.moment.reserve(), self.size) && self.moment.is_open_at(position)
     }
-}
 
-fn in_chunk(m: Moment) -> bool
-    ensures { result ≡ in_chunk m }
-{
-    match m {
-        Moment::Idle => false,
-        Moment::InEntry { id: _, start: _ } => false,
-        Moment::InChunk {
-            id: _,
-            start: _,
-            n: _,
-            owed: _,
-            crc: _,
-        } => true,
+    // And the buffers have the sizes at opening.
+    #[inline(always)]
+    fn is_for(&self, image: &[u8], staging: &[u8]) -> bool
+        ensures { result ≡ valid_with self.now (length image.now) (length staging.now) }
+    {
+        self.has_rules() && image.len() == self.size && staging.len() == self.capacity
     }
-}
 
-// The numbers of a moment, 0 where it has none.
-#[derive(Clone, Copy)]
-struct Numbers {
-    id: u64,
-    start: usize,
-    n: u32,
-    owed: u32,
-    crc: u32,
-}
-
-fn numbers_of(m: Moment) -> Numbers
-    ensures { result ≡ record { id = entry_id m; start = entry_start m; n = length_of m; owed = owed_of m; crc = sum_of m } }
-{
-    match m {
-        Moment::Idle => Numbers {
-            id: 0,
-            start: 0,
-            n: 0,
-            owed: 0,
-            crc: 0,
-        },
-        Moment::InEntry { id, start } => Numbers {
-            id,
-            start,
-            n: 0,
-            owed: 0,
-            crc: 0,
-        },
-        Moment::InChunk {
-            id,
-            start,
-            n,
-            owed,
-            crc,
-        } => Numbers {
-            id,
-            start,
-            n,
-            owed,
-            crc,
-        },
+    // Refused unless the state keeps its own rules.
+    #[inline(always)]
+    fn check_rules(&self) -> Result<(), Refusal>
+        ensures good { IfOk result (λ _. ruled self.now ≡ true) }
+        ensures bad { IfErr result (λ refusal. (refusal ≡ OutOfRange) × (ruled self.now ≡ false)) }
+    {
+        if self.has_rules() {
+            return Ok(());
+        }
+        Err(Refusal::OutOfRange)
     }
-}
 
-// ---- the rules that every state keeps. Any numbers at all may stand in it: no sum is formed that could wrap.
-
-fn numbers_ok(w: LogFileWriter) -> bool
-    ensures { result ≡ all (number_rules w) }
-{
-    (w.size <= 1048576)
-        & (w.capacity <= 65536)
-        & (w.v <= 255)
-        & (w.file.staged <= w.capacity)
-        & (w.file.synchronized <= w.file.position)
-        & (w.file.position <= w.file.length)
-        & (w.file.length <= w.size)
-        & lists::within(5, w.v, w.size)
-}
-
-// What an open entry or chunk may still ask for.
-fn reserve_of(m: Moment) -> usize
-    ensures { result ≡ reserve m }
-{
-    match m {
-        Moment::Idle => 0,
-        Moment::InEntry { id: _, start: _ } => 1,
-        Moment::InChunk {
-            id: _,
-            start: _,
-            n: _,
-            owed,
-            crc: _,
-        } => owed as usize + 5,
+    // Refused unless, besides, the buffers are those: at the head of each call.
+    #[inline(always)]
+    fn check(&self, image: &[u8], staging: &[u8]) -> Result<(), Refusal>
+        ensures good { IfOk result (λ _. valid_with self.now (length image.now) (length staging.now) ≡ true) }
+        ensures bad { IfErr result (λ refusal. (refusal ≡ OutOfRange) × (valid_with self.now (length image.now) (length staging.now) ≡ false)) }
+    {
+        if self.is_for(image, staging) {
+            return Ok(());
+        }
+        Err(Refusal::OutOfRange)
     }
-}
-
-fn chunk_ok(start: usize, n: u32, owed: u32, position: usize) -> bool
-    ensures { result ≡ all (open_rules (Moment.InChunk 0 start n owed 0) position) }
-{
-    let got = lists::less(n as usize, owed as usize);
-    lists::within(start, 9, position) & (owed <= n) & lists::within(start, 14 + got, position)
-}
-
-fn open_ok(m: Moment, position: usize) -> bool
-    ensures { result ≡ all (open_rules m position) }
-{
-    match m {
-        Moment::Idle => true,
-        Moment::InEntry { id: _, start } => lists::within(start, 9, position),
-        Moment::InChunk {
-            id: _,
-            start,
-            n,
-            owed,
-            crc: _,
-        } => chunk_ok(start, n, owed, position),
-    }
-}
-
-fn moment_ok(m: Moment, position: usize, size: usize) -> bool
-    ensures { result ≡ all (moment_rules m position size) }
-{
-    lists::within(position, reserve_of(m), size) & open_ok(m, position)
-}
-
-#[tactic(auto, unfolding(crate::specs::State::ruled))]
-fn rules_hold(w: LogFileWriter) -> bool
-    ensures { result ≡ ruled w }
-{
-    if numbers_ok(w) {
-        let m = w.moment;
-        return moment_ok(m, w.file.position + w.file.staged, w.size);
-    }
-    false
-}
-
-// And the buffers have the sizes at opening.
-fn is_valid(w: LogFileWriter, image: usize, staging: usize) -> bool
-    ensures { result ≡ valid_with w image staging }
-{
-    rules_hold(w) & (image == w.size) & (staging == w.capacity)
-}
-
-// The writer with other numbers; info and sizes never change.
-fn rewrite(w: LogFileWriter, id: u64, file: Buffered, last: LastId, moment: Moment) -> LogFileWriter
-    ensures { result ≡ rewritten w id file last moment }
-{
-    let info = w.info;
-    LogFileWriter {
-        id,
-        info,
-        v: w.v,
-        size: w.size,
-        capacity: w.capacity,
-        file,
-        last,
-        moment,
-    }
-}
-
-// The header in its three writes: the mark and version 0, the length byte, the version info.
-#[tactic(auto, unfolding(buffered::specs::Staging::written_all))]
-fn put_header(file: Buffered, image: &mut [u8], staging: &mut [u8], info: &[u8]) -> Buffered
-    requires { Room (store image.old staging.old file) (5 + length info.now) × (length info.now ≤ 255) }
-    ensures { store image.new staging.new result ≡ written_all (store image.old staging.old file) (heading info.now) }
-{
-    let magic = [0x6f, 0x6b, 0x77, 0];
-    let count = [info.len() as u8];
-    let next = file.write2(image, staging, &magic, &count);
-    next.write(image, staging, info)
 }

@@ -1,10 +1,9 @@
--- How the functions come out, over plain variables; what is known of words in their ranges, of 255 bytes that fill an array, of a call's start, and of a loop
--- that stores.
-pub mod OpeningWays
-pub mod PositionWays
+-- A copy from the first place on; the state that words tell; how calls come out.
+pub mod Storing
 pub mod Ranges
+pub mod Ways
+pub mod Starting
+pub mod PositionWays
 pub mod ReaderRanges
 pub mod ReaderWays
-pub mod Starting
-pub mod Storing
-pub mod Ways
+pub mod OpeningWays

@@ -1,78 +1,85 @@
--- Words in their ranges, by the moment that they tell.
-use Rattle.std.proofs.Common.{◌≡◌, refl, ap, ◌∙◌, true, List, [], ◌∷◌, ◌++◌, append-nil, ℕ, zero, suc, ◌+◌, ◌≤◌, ◌<◌, arith, length, take, get_or, replicate, length-take, drop_of_length-le, leb, leb-true}
-use Rattle.std.proofs.Math.ListN.{length-replicate}
-use Rattle.lists.specs.Lay.{lay}
-use Rattle.lists.specs.LayLaws.{lay-fits}
-use Rattle.lists.specs.Answers.{all, obey}
-use Rattle.lists.specs.AnswersLaws.{every}
-use Rattle.log_file.specs.declared.LastId.TheVariants.{Of}
+-- The first 16 words and the first 255 bytes tell what a longer state and longer bytes tell; so do a reader's first 10 words.
+use Rattle.std.proofs.Common.{◌≡◌, refl, ℕ, ◌<◌, Bool, true, false, ◌&&◌, Option, Some, List, length, take, leb, sym, ap, ◌∙◌, lit<}
+use Rattle.std.proofs.Math.Seq.{take-length}
+use Rattle.std.specs.Bool.{then_some}
+use Rattle.std.proofs.lemmas.Option.{same_Some, none-some}
 use Rattle.log_file.specs.declared.Moment.{Moment}
-use Rattle.log_file.specs.declared.Moment.TheVariants.{Idle, InEntry, InChunk}
+use Rattle.std.proofs.lemmas.List.{get_or-take}
+use Rattle.lists.specs.TakeLaws.{take_min}
 use Rattle.okaywal_segment.specs.Words.{word}
-use Rattle.okaywal_segment.specs.WriterWords.{last_from, moment_from, moment_words, chunk_fits, writer_fits}
+use Rattle.okaywal_segment.specs.WriterWords.{last_from, moment_from, chunk_fits, writer_fits, writer_from}
+use Rattle.okaywal_segment.specs.ReaderWords.{reader_fits, reader_from}
 
-pub known : (k id : ℕ) → (k ≡ 0 → ⊥) → Of id ≡ last_from k id
-known zero id h = absurd (h refl)
-known (suc k) id h = refl
+taken : (state : List ℕ) (i : ℕ) → i < 16 → word i (take 16 state) ≡ word i state
+taken state i h = get_or-take 16 state i 0 h
 
-pub in_entry : (kind id start n owed crc : ℕ) → kind ≡ 1 → InEntry id start ≡ moment_from kind id start n owed crc
-in_entry kind id start n owed crc e = rw e
-
-pub in_chunk : (kind id start n owed crc : ℕ) → (kind ≡ 0 → ⊥) → (kind ≡ 1 → ⊥) → InChunk id start n owed crc ≡ moment_from kind id start n owed crc
-in_chunk zero id start n owed crc h g = absurd (h refl)
-in_chunk (suc zero) id start n owed crc h g = absurd (g refl)
-in_chunk (suc (suc k)) id start n owed crc h g = refl
-
--- ---- a chunk's numbers
-
-pub small : (kind n owed crc : ℕ) → kind < 2 → true ≡ chunk_fits kind n owed crc
-small zero n owed crc h = refl
-small (suc zero) n owed crc h = refl
-small (suc (suc k)) n owed crc h = absurd (omega arith)
-
-pub large : (kind n owed crc : ℕ) → 2 ≤ kind → all (leb n 4294967295 ∷ leb owed 4294967295 ∷ leb crc 4294967295 ∷ []) ≡ chunk_fits kind n owed crc
-large zero n owed crc h = absurd (omega arith)
-large (suc zero) n owed crc h = absurd (omega arith)
-large (suc (suc k)) n owed crc h = refl
-
-pub chunk-numbers : (kind n owed crc : ℕ) → (kind ≡ 0 → ⊥) → (kind ≡ 1 → ⊥) → chunk_fits kind n owed crc ≡ true
-    → (n ≤ 4294967295) × (owed ≤ 4294967295) × (crc ≤ 4294967295)
-chunk-numbers zero n owed crc h g e = absurd (h refl)
-chunk-numbers (suc zero) n owed crc h g e = absurd (g refl)
-chunk-numbers (suc (suc k)) n owed crc h g e =
-    let z = every (leb n 4294967295 ∷ leb owed 4294967295 ∷ leb crc 4294967295 ∷ []) e in
-    omega (arith, leb-true)
-
-pub moment-fits : (words : List ℕ) → writer_fits words ≡ true → chunk_fits (word 10 words) (word 13 words) (word 14 words) (word 15 words) ≡ true
+pub fits_first : (state : List ℕ) → writer_fits (take 16 state) ≡ writer_fits state
 unfolding writer_fits
-moment-fits words e =
-    (every (leb (word 8 words) 1 ∷ leb (word 10 words) 2 ∷ chunk_fits (word 10 words) (word 13 words) (word 14 words) (word 15 words) ∷ []) e).1.1.0
+fits_first state =
+    rw (taken state 8 (lit< tt), taken state 10 (lit< tt), taken state 13 (lit< tt), taken state 14 (lit< tt), taken state 15 (lit< tt))
 
--- ---- lists of a known length
+pub from_first : (state info : List ℕ) → writer_from (take 16 state) (take 255 info) ≡ writer_from state info
+unfolding writer_from
+from_first state info =
+    rw (
+      take_min 255 255 info,
+      taken state 0 (lit< tt),
+      taken state 1 (lit< tt),
+      taken state 2 (lit< tt),
+      taken state 3 (lit< tt),
+      taken state 4 (lit< tt),
+      taken state 5 (lit< tt),
+      taken state 6 (lit< tt),
+      taken state 7 (lit< tt),
+      taken state 8 (lit< tt),
+      taken state 9 (lit< tt),
+      taken state 10 (lit< tt),
+      taken state 11 (lit< tt),
+      taken state 12 (lit< tt),
+      taken state 13 (lit< tt),
+      taken state 14 (lit< tt),
+      taken state 15 (lit< tt),
+    )
 
--- 255 bytes fill an array of 255
-pub held : (info : List ℕ) → 255 ≤ length info → lay (replicate 255 0) 0 (take 255 info) ≡ take 255 info
-held info h =
-    let n = length-replicate {A = ℕ} 255 0 in
-    let t : length (take 255 info) ≡ 255 = simp length-take (omega arith) in
-    let all_of : length (replicate {A = ℕ} 255 0) ≤ 0 + length (take 255 info) = omega arith in
-    lay-fits (replicate 255 0) 0 (take 255 info) (omega arith)
-    ∙ ap (λ (rest : List ℕ). take 255 info ++ rest) (drop_of_length-le (replicate 255 0) all_of)
-    ∙ append-nil (take 255 info)
+is_some : {A : Type 0} (b : Bool) (x y : A) → Some y ≡ then_some b x → (b ≡ true) × (y ≡ x)
+is_some true x y e = (refl, same_Some y x e)
+is_some false x y e = absurd (none-some y (sym e))
 
--- the six words of a moment
-pub six : (m : Moment)
-    → get_or (moment_words m) 0 0 ∷ get_or (moment_words m) 1 0 ∷ get_or (moment_words m) 2 0 ∷ get_or (moment_words m) 3 0 ∷ get_or (moment_words m) 4 0 ∷ get_or (moment_words m) 5 0 ∷ []
-    ≡ moment_words m
-six Idle = refl
-six (InEntry id start) = refl
-six (InChunk id start n owed crc) = refl
+-- the state, where each of its parts is told
+pub told : (words info : List ℕ) → length info ≡ 255 → (last : Option ℕ) (moment : Moment)
+    → Some last ≡ then_some (leb (word 8 words) 1) (last_from (word 8 words) (word 9 words))
+    → Some moment
+    ≡ then_some (leb (word 10 words) 2 && chunk_fits (word 10 words) (word 13 words) (word 14 words) (word 15 words))
+    (moment_from (word 10 words) (word 11 words) (word 12 words) (word 13 words) (word 14 words) (word 15 words))
+    → Some (record (writer_from words info) { info = info; last = last; moment = moment }) ≡ then_some (writer_fits words) (writer_from words info)
+unfolding writer_fits writer_from
+told words info n last moment a b =
+    let l = is_some _ _ last a in
+    let m = is_some _ _ moment b in
+    let t : take 255 info ≡ info = ap (λ (k : ℕ). take k info) (sym n) ∙ take-length info in
+    rw (l.0, m.0, l.1, m.1, t)
 
--- ---- a refusal stores nothing
+-- ---- a reader's
 
-pub stays : (n : ℕ) (state state' : List ℕ) → (n ≡ 0 → ⊥) → state ≡ obey n state state'
-stays zero state state' h = absurd (h refl)
-stays (suc n) state state' h = refl
+read_of : (state : List ℕ) (i : ℕ) → i < 10 → word i (take 10 state) ≡ word i state
+read_of state i h = get_or-take 10 state i 0 h
 
-pub goes : (n : ℕ) (state state' left : List ℕ) → n ≡ 0 → left ≡ state' → left ≡ obey n state state'
-goes n state state' left z e = rw z e
+pub reader_fits_first : (state : List ℕ) → reader_fits (take 10 state) ≡ reader_fits state
+unfolding reader_fits
+reader_fits_first state = rw (read_of state 5 (lit< tt), read_of state 8 (lit< tt), read_of state 9 (lit< tt))
+
+pub reader_from_first : (state : List ℕ) → reader_from (take 10 state) ≡ reader_from state
+unfolding reader_from
+reader_from_first state =
+    rw (
+      read_of state 0 (lit< tt),
+      read_of state 1 (lit< tt),
+      read_of state 2 (lit< tt),
+      read_of state 3 (lit< tt),
+      read_of state 4 (lit< tt),
+      read_of state 5 (lit< tt),
+      read_of state 6 (lit< tt),
+      read_of state 7 (lit< tt),
+      read_of state 8 (lit< tt),
+      read_of state 9 (lit< tt),
+    )

@@ -1,6 +1,6 @@
 -- From call to call: the words that an accepted call leaves are in their ranges, and the next call reads from them the very state that it left. So a row
 -- of calls across the boundary is the row of the calls themselves.
-use Rattle.std.specs.Prelude.{ℕ, zero, suc, ◌^◌, ◌≤◌, ◌<◌, ◌≡◌, refl, true, cond, List, [], ◌∷◌, ◌++◌, length, leb}
+use Rattle.std.specs.Prelude.{ℕ, zero, suc, ◌^◌, ◌≤◌, ◌<◌, ◌≡◌, refl, true, cond, List, [], ◌∷◌, ◌++◌, length, leb, Option, Some, None}
 use Rattle.std.proofs.Common.{arith, ap, leb-true, le-leb}
 use Rattle.std.proofs.Math.Path.{sym}
 use Rattle.std.proofs.Math.ListN.{take}
@@ -11,8 +11,6 @@ use Rattle.lists.specs.AnswersLaws.{every, all_hold}
 use Rattle.lists.specs.ChoiceLaws.{either, obeyed}
 use Rattle.crc32c.specs.CrcLaws.{crc_append-lt}
 use Rattle.entry.specs.FormatLaws.{chunk_sum-none}
-use Rattle.log_file.specs.declared.LastId.{LastId}
-use Rattle.log_file.specs.declared.LastId.TheVariants.{Nothing, Of}
 use Rattle.log_file.specs.declared.Moment.{Moment}
 use Rattle.log_file.specs.declared.Moment.TheVariants.{Idle, InEntry, InChunk}
 use Rattle.log_file.specs.declared.LogFileWriter.{LogFileWriter}
@@ -48,9 +46,9 @@ small-words words info e =
     small-from (word 10 words) (word 11 words) (word 12 words) (word 13 words) (word 14 words) (word 15 words) z.1.1.0
 
 -- and the other way round
-known-fits : (l : LastId) → leb (last_known l) 1 ≡ true
-known-fits Nothing = refl
-known-fits (Of id) = refl
+known-fits : (l : Option ℕ) → leb (last_known l) 1 ≡ true
+known-fits None = refl
+known-fits (Some id) = refl
 
 moment-fits : (m : Moment) (rest : List ℕ) → Small m
     → (leb (word 0 (moment_words m ++ rest)) 2 ≡ true)

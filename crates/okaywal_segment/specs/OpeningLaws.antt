@@ -17,7 +17,7 @@ use Rattle.log_file.specs.Calls.{Called}
 use Rattle.log_file.specs.Opening.{Terms, open_refusal, opened_machine, blank, opened}
 use Rattle.log_file.specs.OpeningLaws.{refused-opening}
 use Rattle.segment_reader.specs.declared.SegmentReader.{SegmentReader}
-use Rattle.segment_reader.specs.Reading.{Opened, opens, refuses, opened as header_of}
+use Rattle.reading.specs.Reading.{Opened, opens, refuses, opened as header_of}
 use Rattle.segment_reader.specs.Calls.{Step, told, answer_of, zeros, opened_with, new}
 use Rattle.segment_reader.specs.LedLaws.{opened-led}
 use Rattle.okaywal_segment.specs.WriterWords.{writer_words, writer_from, writer_fits}

@@ -8,7 +8,7 @@ use Rattle.lists.specs.LayLaws.{lay-fits}
 use Rattle.lists.specs.Answers.{number_of}
 use Rattle.lists.specs.AnswersLaws.{every, all_hold}
 use Rattle.lists.specs.ChoiceLaws.{either}
-use Rattle.little_endian.specs.LittleEndianLaws.{Bytes}
+use Rattle.lists.specs.NumbersLaws.{Bytes}
 use Rattle.segment_reader.specs.declared.Moment.{Moment}
 use Rattle.segment_reader.specs.declared.Moment.TheVariants.{Between, InEntry, InChunk, Ended}
 use Rattle.segment_reader.specs.declared.SegmentReader.{SegmentReader}

@@ -1,6 +1,8 @@
 -- A reader's state as 10 words (include/okaywal_segment.h, "Reader state"), there and back.
-use Rattle.std.specs.Prelude.{ℕ, zero, suc, ◌≤◌, ◌≡◌, Bool, true, List, [], ◌∷◌, length, leb}
+use Rattle.std.specs.Prelude.{ℕ, zero, suc, Bool, true, cond, List, [], ◌∷◌, length, leb, Result, Ok, Err}
 use Rattle.lists.specs.Answers.{all}
+use Rattle.entry.specs.declared.Refusal.{Refusal}
+use Rattle.entry.specs.declared.Refusal.TheVariants.{OutOfRange}
 use Rattle.segment_reader.specs.declared.Moment.{Moment}
 use Rattle.segment_reader.specs.declared.Moment.TheVariants.{Between, InEntry, InChunk, Ended}
 use Rattle.segment_reader.specs.declared.SegmentReader.{SegmentReader}
@@ -47,7 +49,7 @@ part_fits (suc (suc (suc k))) n owed = true
 unfoldable pub reader_fits : List ℕ → Bool
 reader_fits words = all (leb (word 5 words) 3 ∷ part_fits (word 5 words) (word 8 words) (word 9 words) ∷ [])
 
--- long enough to be read, and in range
-pub record Reads (words : List ℕ) : Type 0 where
-  pub all_words : 10 ≤ length words
-  pub in_range : reader_fits words ≡ true
+-- ---- the state that lent words tell: none where the slice is too short or a word out of its range
+
+abbrev pub reader_loaded : (words : List ℕ) → Result SegmentReader Refusal
+reader_loaded words = cond (all (leb 10 (length words) ∷ reader_fits words ∷ [])) (Ok (reader_from words)) (Err OutOfRange)

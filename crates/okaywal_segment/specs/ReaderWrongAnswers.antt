@@ -3,10 +3,10 @@
 use Rattle.std.specs.Prelude.{ℕ, refl, List, [], ◌∷◌, ◌++◌, replicate}
 use Rattle.lists.specs.Lay.{lay}
 use Rattle.lists.specs.Walk.{walk, around}
-use Rattle.little_endian.specs.LittleEndian.{from_le, number}
+use Rattle.lists.specs.Numbers.{from_le, number}
 use Rattle.crc32c.specs.Crc.{bit_step, steps, byte_step, update, crc_append}
 use Rattle.entry.specs.Format.{covered, chunk_sum}
-use Rattle.segment_reader.specs.Reading.{standing, also, whole_turn, whole, left, lead, opened}
+use Rattle.reading.specs.Reading.{standing, also, whole_turn, whole, left, lead, opened}
 use Rattle.segment_reader.specs.State.{stands_at, in_place, fit, leaving, start_of, holding, open_of}
 use Rattle.segment_reader.specs.Calls.{answer_of, resting, opened_with, new, entry_met, entry_from, read_entry, chunk_met, chunk_from, read_chunk, read_in, read, check_at, check_in, check_crc, skip_in, skip_remaining, whole_reply, whole_from, read_all_chunks, read_by}
 use Rattle.okaywal_segment.specs.Words.{word}

@@ -1,6 +1,6 @@
 -- What each function of a writer may return and leave in the slices that it is lent: `crossed`, at its call. A shared slice stays.
 use Rattle.std.specs.Prelude.{ℕ, List, [], ℤ}
-use Rattle.buffered.specs.declared.seek.SeekFrom.TheVariants.{Start, End, Current}
+use Rattle.std.specs.declared.io.SeekFrom.TheVariants.{Start, End, Current}
 use Rattle.log_file.specs.Calls.{begin_entry, begin_chunk, write, finish, commit, rollback, flush, recycle, synchronize, landing}
 use Rattle.okaywal_segment.specs.Crossing.{WriterAllows}
 

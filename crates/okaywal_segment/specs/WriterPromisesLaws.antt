@@ -2,7 +2,7 @@
 use Rattle.std.specs.Prelude.{ℕ, ◌≡◌, List, [], ℤ}
 use Rattle.std.proofs.Common.{ap, sym, ◌∙◌}
 use Rattle.crc32c.specs.Crc.{AppendAllows}
-use Rattle.buffered.specs.declared.seek.SeekFrom.TheVariants.{Start, End, Current}
+use Rattle.std.specs.declared.io.SeekFrom.TheVariants.{Start, End, Current}
 use Rattle.log_file.specs.Calls.{begin_entry, begin_chunk, write, finish, commit, rollback, flush, recycle, synchronize, landing}
 use Rattle.okaywal_segment.specs.CrossingLaws.{Same, one_answer}
 use Rattle.okaywal_segment.specs.WriterPromises.{BeginAllows, BeginChunkAllows, WriteAllows, FinishAllows, CommitAllows, RollbackAllows, RecycleAllows, FlushAllows, SyncAllows, LandStartAllows, LandEndAllows, LandCurrentAllows}

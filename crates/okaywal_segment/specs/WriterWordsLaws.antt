@@ -1,11 +1,9 @@
 -- A state to words to a state is the same state; words to a state to words are the same words, 0 where the moment does not use them.
-use Rattle.std.specs.Prelude.{ℕ, zero, suc, ◌≤◌, ◌≡◌, refl, true, List, [], ◌∷◌, ◌++◌, length, take, replicate, leb}
+use Rattle.std.specs.Prelude.{ℕ, zero, suc, ◌≤◌, ◌≡◌, refl, true, List, [], ◌∷◌, ◌++◌, length, take, replicate, leb, Option, Some, None}
 use Rattle.std.proofs.Common.{arith, append-nil, take_all, leb-true}
 use Rattle.lists.specs.Lay.{lay}
 use Rattle.lists.specs.LayLaws.{lay-fits}
 use Rattle.lists.specs.AnswersLaws.{every}
-use Rattle.log_file.specs.declared.LastId.{LastId}
-use Rattle.log_file.specs.declared.LastId.TheVariants.{Nothing, Of}
 use Rattle.log_file.specs.declared.Moment.{Moment}
 use Rattle.log_file.specs.declared.Moment.TheVariants.{Idle, InEntry, InChunk}
 use Rattle.log_file.specs.declared.LogFileWriter.{LogFileWriter}
@@ -15,9 +13,9 @@ use Rattle.okaywal_segment.specs.WriterWords.{last_known, last_of, moment_words,
 
 -- ---- a state to words to a state
 
-last-back : (l : LastId) → last_from (last_known l) (last_of l) ≡ l
-last-back Nothing = refl
-last-back (Of id) = refl
+last-back : (l : Option ℕ) → last_from (last_known l) (last_of l) ≡ l
+last-back None = refl
+last-back (Some id) = refl
 
 moment-back : (m : Moment) (rest : List ℕ)
     → moment_from
@@ -41,7 +39,7 @@ words-read w rest info i =
     λ j. record {
       id = w.id;
       info = i j;
-      v = w.v;
+      info_length = w.info_length;
       size = w.size;
       capacity = w.capacity;
       file = w.file;
@@ -114,7 +112,7 @@ writer_of words info rest =
     record {
       id = word 0 words;
       info = take 255 info;
-      v = word 1 words;
+      info_length = word 1 words;
       size = word 2 words;
       capacity = word 3 words;
       file = record { length = word 4 words; position = word 5 words; staged = word 6 words; synchronized = word 7 words };

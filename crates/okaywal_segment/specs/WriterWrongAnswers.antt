@@ -3,7 +3,7 @@
 -- info; its entry 7 has one chunk, 7, 8, 9.
 use Rattle.std.specs.Prelude.{ℕ, refl, List, [], ◌∷◌, ◌++◌, drop, replicate, negsuc}
 use Rattle.lists.specs.Lay.{lay}
-use Rattle.little_endian.specs.LittleEndian.{le}
+use Rattle.lists.specs.Numbers.{le}
 use Rattle.crc32c.specs.Crc.{bit_step, steps, byte_step, update, crc_append}
 use Rattle.entry.specs.Format.{covered, chunk_sum}
 use Rattle.buffered.specs.Staging.{flushed, staged, emptied, rounds, written, written_all, back_to, synchronized}

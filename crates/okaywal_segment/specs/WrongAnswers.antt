@@ -4,7 +4,7 @@ use Rattle.std.specs.Prelude.{ℕ, ◌≡◌, refl, false, List, [], ◌∷◌, 
 use Rattle.std.proofs.Common.{sym, ap, ◌∙◌}
 use Rattle.std.proofs.lemmas.Bool.{eqb-false}
 use Rattle.lists.specs.Lay.{lay}
-use Rattle.little_endian.specs.LittleEndian.{le, from_le, number}
+use Rattle.lists.specs.Numbers.{le, from_le, number}
 use Rattle.crc32c.specs.Crc.{bit_step, steps, byte_step, update, crc_append, AppendAllows}
 use Rattle.entry.specs.Position.{position_bytes, serialized, deserialized}
 use Rattle.okaywal_segment.specs.Words.{word}

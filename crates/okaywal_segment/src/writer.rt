@@ -1,17 +1,106 @@
-// The writer's calls. Each is refused with 12 where a slice is too short, before all else, and nothing is stored anywhere; with 12 where a word is out
-// of its range; and as the call itself is. An accepted one writes every state word anew. A refused one changes no state word and no byte of a buffer.
+//! The writer's calls. Each is refused with 12 where a slice is too short, before all else, and nothing is stored anywhere; with 12 where a word is out
+//! of its range; and as the call itself is. An accepted one writes every state word anew. A refused one changes no state word and no byte of a buffer.
+#![tactic(auto, using(crate::proofs::Ways::answered, crate::proofs::Ways::unanswered))]
+
 ghost use Rattle.std.specs.Prelude.{◌≡◌, []};
+ghost use Rattle.lists.specs.Answers.{accepted};
 ghost use Rattle.log_file.specs.Calls.{landing};
-ghost use Rattle.okaywal_segment.specs.Crossing.{WriterAllows};
+ghost use Rattle.log_file.specs.Step.{call_of, reply_values};
+ghost use Rattle.okaywal_segment.specs.Words.{answer_words};
+ghost use Rattle.okaywal_segment.specs.Steps.{enough};
+ghost use Rattle.okaywal_segment.specs.Crossing.{left, WriterAllows};
+ghost use Rattle.okaywal_segment.specs.WriterSteps.{CalledAllows, LandedAllows, crossed_bare, crossed_by};
 ghost use Rattle.okaywal_segment.specs.WriterPromises.{BeginAllows, BeginChunkAllows, WriteAllows, FinishAllows, CommitAllows, RollbackAllows, RecycleAllows, FlushAllows, SyncAllows, LandStartAllows, LandEndAllows, LandCurrentAllows};
 
-use crate::steps::{answer_with, leave, ready, ready_to_answer, restate};
-use crate::words;
-use crate::writer_words::load;
-use buffered::seek::SeekFrom;
+use crate::words::{ANSWER_WORDS, number_of, put, tell};
+use crate::writer_words::{INFO_BYTES, STATE_WORDS, load, words_of};
+use entry::Refusal;
+use log_file::calls::{Call, Reply};
+use std::io::SeekFrom;
 
-// Begins an entry. Refused with 12, 6 unless idle, 7 where the id is below the segment's, 5 where there is no room.
-#[tactic(auto, unfolding(crate::specs::Crossing::crossed), using(crate::proofs::Starting::lay_none))]
+// The words of an answer, 0 behind those that the call reports.
+fn reply_words(reply: Reply) -> [u64; 4]
+    ensures { result ≡ answer_words (accepted (reply_values reply)) }
+{
+    match reply {
+        Reply::Done => [0; 4],
+        Reply::Taken(count) => [count as u64, 0, 0, 0],
+        Reply::Chunk(chunk) => [
+            chunk.position.file_id,
+            chunk.position.offset,
+            chunk.crc.into(),
+            chunk.length.into(),
+        ],
+        Reply::Entry(entry) => [entry.id, entry.position as u64, 0, 0],
+        Reply::Place(place) => [place, 0, 0, 0],
+    }
+}
+
+// The twelve functions below stay, each for its call: they are public, and C knows them by name. So the four slices come one by one; a struct of them would
+// be put together in all twelve, for the few functions here that pass them on. Those of reader.rt are lent other slices, and store on other refusals:
+// what the two have in common is `tell` and `number_of` of words.
+
+// Words to a state, one call, a state to words. Inlined with what it calls, so that each export is made for its one call: without it the three calls of a
+// 64-byte chunk took a quarter longer (tried on an earlier form of this crate).
+#[inline(always)]
+fn called(
+    state: &mut [u64],
+    info: &[u8],
+    image: &mut [u8],
+    staging: &mut [u8],
+    call: Call<'_>,
+) -> Result<Reply, Refusal>
+    ensures { CalledAllows (call_of call.entry) state.old info.now image.old staging.old result state.new image.new staging.new }
+{
+    let mut writer = load(state, info)?;
+    let reply = writer.step(image, staging, call)?;
+    put(state, &words_of(&writer));
+    Ok(reply)
+}
+
+// The same for a call with no answer.
+#[inline(always)]
+fn carry_out(
+    state: &mut [u64],
+    info: &[u8],
+    image: &mut [u8],
+    staging: &mut [u8],
+    call: Call<'_>,
+) -> u64
+    ensures { left result state.new image.new staging.new [] ≡ crossed_bare (call_of call.entry) state.old info.now image.old staging.old }
+{
+    number_of(called(state, info, image, staging, call))
+}
+
+// Whether no slice is too short for a call with an answer.
+fn are_lent(state: &[u64], info: &[u8], answer: &[u64]) -> bool
+    ensures { result ≡ enough 4 state.now info.now answer.now }
+{
+    STATE_WORDS <= state.len() && INFO_BYTES <= info.len() && ANSWER_WORDS <= answer.len()
+}
+
+// The same for a call with an answer, of which nothing is stored where a slice is too short.
+#[inline(always)]
+fn answering(
+    state: &mut [u64],
+    info: &[u8],
+    image: &mut [u8],
+    staging: &mut [u8],
+    call: Call<'_>,
+    answer: &mut [u64],
+) -> u64
+    ensures { left result state.new image.new staging.new answer.new ≡ crossed_by 4 (call_of call.entry) state.old info.now image.old staging.old answer.old }
+{
+    if !are_lent(state, info, answer) {
+        return Refusal::OutOfRange.number().into();
+    }
+    tell(
+        called(state, info, image, staging, call).map(reply_words),
+        answer,
+    )
+}
+
+/// Begins an entry. Refused with 12, 6 unless idle, 7 where the id is below the segment's, 5 where there is no room.
 pub fn okw_writer_begin(
     state: &mut [u64],
     info: &[u8],
@@ -21,18 +110,10 @@ pub fn okw_writer_begin(
 ) -> u64
     ensures { BeginAllows state.old info.now image.old staging.old entry_id result state.new image.new staging.new }
 {
-    if !ready(state, info) {
-        return 12;
-    }
-    let w = load(state, info);
-    let done = log_file::entries::begin_entry(w, image, staging, entry_id);
-    let next = done.writer;
-    let said = done.answer;
-    restate(state, next, words::number_of(said))
+    carry_out(state, info, image, staging, Call::BeginEntry(entry_id))
 }
 
-// Begins a chunk of length bytes. Refused with 12, 6 unless in an entry with no chunk open, 5 where there is no room.
-#[tactic(auto, unfolding(crate::specs::Crossing::crossed), using(crate::proofs::Starting::lay_none))]
+/// Begins a chunk of length bytes. Refused with 12, 6 unless in an entry with no chunk open, 5 where there is no room.
 pub fn okw_writer_begin_chunk(
     state: &mut [u64],
     info: &[u8],
@@ -42,18 +123,10 @@ pub fn okw_writer_begin_chunk(
 ) -> u64
     ensures { BeginChunkAllows state.old info.now image.old staging.old length result state.new image.new staging.new }
 {
-    if !ready(state, info) {
-        return 12;
-    }
-    let w = load(state, info);
-    let done = log_file::entries::begin_chunk(w, image, staging, length);
-    let next = done.writer;
-    let said = done.answer;
-    restate(state, next, words::number_of(said))
+    carry_out(state, info, image, staging, Call::BeginChunk(length))
 }
 
-// Takes the first min(offered, owed) bytes, and answers their number. Refused with 12, 6 unless in a chunk.
-#[tactic(auto, unfolding(crate::specs::Crossing::crossed))]
+/// Takes the first min(offered, owed) bytes, and answers their number. Refused with 12, 6 unless in a chunk.
 pub fn okw_writer_write(
     state: &mut [u64],
     info: &[u8],
@@ -64,18 +137,10 @@ pub fn okw_writer_write(
 ) -> u64
     ensures { WriteAllows state.old info.now image.old staging.old bytes.now answer.old result state.new image.new staging.new answer.new }
 {
-    if !ready_to_answer(state, info, answer) {
-        return 12;
-    }
-    let w = load(state, info);
-    let done = log_file::entries::write(w, image, staging, bytes);
-    let next = done.writer;
-    let said = done.answer;
-    leave(state, answer, next, words::of_write(said))
+    answering(state, info, image, staging, Call::Write(bytes), answer)
 }
 
-// Finishes the open chunk: file id, offset of the 02, CRC, length. Refused with 12, 6 unless in a chunk, 8 with bytes owed.
-#[tactic(auto, unfolding(crate::specs::Crossing::crossed))]
+/// Finishes the open chunk: file id, offset of the 02, CRC, length. Refused with 12, 6 unless in a chunk, 8 with bytes owed.
 pub fn okw_writer_finish(
     state: &mut [u64],
     info: &[u8],
@@ -85,18 +150,10 @@ pub fn okw_writer_finish(
 ) -> u64
     ensures { FinishAllows state.old info.now image.old staging.old answer.old result state.new image.new staging.new answer.new }
 {
-    if !ready_to_answer(state, info, answer) {
-        return 12;
-    }
-    let w = load(state, info);
-    let done = log_file::entries::finish(w, image, staging);
-    let next = done.writer;
-    let said = done.answer;
-    leave(state, answer, next, words::of_finish(said))
+    answering(state, info, image, staging, Call::Finish, answer)
 }
 
-// Commits the entry: its id, and the logical position behind it. Refused with 12, 6 unless in an entry with no chunk open.
-#[tactic(auto, unfolding(crate::specs::Crossing::crossed))]
+/// Commits the entry: its id, and the logical position behind it. Refused with 12, 6 unless in an entry with no chunk open.
 pub fn okw_writer_commit(
     state: &mut [u64],
     info: &[u8],
@@ -106,18 +163,10 @@ pub fn okw_writer_commit(
 ) -> u64
     ensures { CommitAllows state.old info.now image.old staging.old answer.old result state.new image.new staging.new answer.new }
 {
-    if !ready_to_answer(state, info, answer) {
-        return 12;
-    }
-    let w = load(state, info);
-    let done = log_file::entries::commit(w, image, staging);
-    let next = done.writer;
-    let said = done.answer;
-    leave(state, answer, next, words::of_commit(said))
+    answering(state, info, image, staging, Call::Commit, answer)
 }
 
-// Goes back to the entry's start, also from inside a chunk. Refused with 12, 6 when idle.
-#[tactic(auto, unfolding(crate::specs::Crossing::crossed), using(crate::proofs::Starting::lay_none))]
+/// Goes back to the entry's start, also from inside a chunk. Refused with 12, 6 when idle.
 pub fn okw_writer_rollback(
     state: &mut [u64],
     info: &[u8],
@@ -126,18 +175,10 @@ pub fn okw_writer_rollback(
 ) -> u64
     ensures { RollbackAllows state.old info.now image.old staging.old result state.new image.new staging.new }
 {
-    if !ready(state, info) {
-        return 12;
-    }
-    let w = load(state, info);
-    let done = log_file::entries::rollback(w, image, staging);
-    let next = done.writer;
-    let said = done.answer;
-    restate(state, next, words::number_of(said))
+    carry_out(state, info, image, staging, Call::Rollback)
 }
 
-// Begins the segment anew under another id. Refused with 12, 6 unless idle.
-#[tactic(auto, unfolding(crate::specs::Crossing::crossed), using(crate::proofs::Starting::lay_none))]
+/// Begins the segment anew under another id. Refused with 12, 6 unless idle.
 pub fn okw_writer_recycle(
     state: &mut [u64],
     info: &[u8],
@@ -147,33 +188,17 @@ pub fn okw_writer_recycle(
 ) -> u64
     ensures { RecycleAllows state.old info.now image.old staging.old new_id result state.new image.new staging.new }
 {
-    if !ready(state, info) {
-        return 12;
-    }
-    let w = load(state, info);
-    let done = log_file::file::recycle(w, image, staging, new_id);
-    let next = done.writer;
-    let said = done.answer;
-    restate(state, next, words::number_of(said))
+    carry_out(state, info, image, staging, Call::Recycle(new_id))
 }
 
-// Staged bytes go to the image. Refused with 12.
-#[tactic(auto, unfolding(crate::specs::Crossing::crossed), using(crate::proofs::Starting::lay_none))]
+/// Staged bytes go to the image. Refused with 12.
 pub fn okw_writer_flush(state: &mut [u64], info: &[u8], image: &mut [u8], staging: &mut [u8]) -> u64
     ensures { FlushAllows state.old info.now image.old staging.old result state.new image.new staging.new }
 {
-    if !ready(state, info) {
-        return 12;
-    }
-    let w = load(state, info);
-    let done = log_file::file::flush(w, image, staging);
-    let next = done.writer;
-    let said = done.answer;
-    restate(state, next, words::number_of(said))
+    carry_out(state, info, image, staging, Call::Flush)
 }
 
-// Notes that everything below target is on the device, after a flush where that is wanted. Refused with 12.
-#[tactic(auto, unfolding(crate::specs::Crossing::crossed), using(crate::proofs::Starting::lay_none))]
+/// Notes that everything below target is on the device, after a flush where that is wanted. Refused with 12.
 pub fn okw_writer_sync(
     state: &mut [u64],
     info: &[u8],
@@ -183,18 +208,24 @@ pub fn okw_writer_sync(
 ) -> u64
     ensures { SyncAllows state.old info.now image.old staging.old target result state.new image.new staging.new }
 {
-    if !ready(state, info) {
-        return 12;
-    }
-    let w = load(state, info);
-    let done = log_file::file::synchronize(w, image, staging, target);
-    let next = done.writer;
-    let said = done.answer;
-    restate(state, next, words::number_of(said))
+    carry_out(state, info, image, staging, Call::Synchronize(target))
 }
 
-// ---- landing places: nothing moves, and no state word is written
+// Where a seek lands, of a state that is told by words.
+fn landed(
+    state: &[u64],
+    info: &[u8],
+    image: &[u8],
+    staging: &[u8],
+    from: SeekFrom,
+) -> Result<[u64; 4], Refusal>
+    ensures { LandedAllows from state.now info.now image.now staging.now result }
+{
+    let place = load(state, info)?.seek(image, staging, from)?;
+    Ok([place, 0, 0, 0])
+}
 
+// Nothing moves, and no state word is written.
 #[tactic(auto, unfolding(crate::specs::Crossing::crossed))]
 fn land(
     state: &[u64],
@@ -206,15 +237,13 @@ fn land(
 ) -> u64
     ensures { WriterAllows (landing from) state.now info.now image.now staging.now answer.old result state.now image.now staging.now answer.new }
 {
-    if !ready_to_answer(state, info, answer) {
-        return 12;
+    if !are_lent(state, info, answer) {
+        return Refusal::OutOfRange.number().into();
     }
-    let w = load(state, info);
-    let place = log_file::file::seek(w, image, staging, from);
-    answer_with(answer, words::of_landing(place))
+    tell(landed(state, info, image, staging, from), answer)
 }
 
-// Where a seek to place lands. Refused with 12, 11 past the image size.
+/// Where a seek to place lands. Refused with 12, 11 past the image size.
 pub fn okw_writer_land_start(
     state: &[u64],
     info: &[u8],
@@ -228,7 +257,7 @@ pub fn okw_writer_land_start(
     land(state, info, image, staging, SeekFrom::Start(place), answer)
 }
 
-// Where a seek by offset from the file length lands. Refused with 12, 11 below 0 or past the image size.
+/// Where a seek by offset from the file length lands. Refused with 12, 11 below 0 or past the image size.
 pub fn okw_writer_land_end(
     state: &[u64],
     info: &[u8],
@@ -242,7 +271,7 @@ pub fn okw_writer_land_end(
     land(state, info, image, staging, SeekFrom::End(offset), answer)
 }
 
-// Where a seek by offset from the logical position lands. Refused with 12, 11 below 0 or past the image size.
+/// Where a seek by offset from the logical position lands. Refused with 12, 11 below 0 or past the image size.
 pub fn okw_writer_land_current(
     state: &[u64],
     info: &[u8],

@@ -1,8 +1,8 @@
-// Opening a writer.
+//! Opening a writer.
 ghost use Rattle.okaywal_segment.specs.OpeningCrossing.{request, OpenAllows};
 
-// Opens a segment. Refused with 12 where state or info is too short, and nothing is stored; with 12 for a number out of its range, 4 for a version info
-// over 255 bytes, 5 where padding or header has no room: state and info are then zeros, and the buffers stay.
+/// Opens a segment. Refused with 12 where state or info is too short, and nothing is stored; with 12 for a number out of its range, 4 for a version info
+/// over 255 bytes, 5 where padding or header has no room: state and info are then zeros, and the buffers stay.
 #[unsafe(no_mangle)]
 pub extern "C" fn okw_writer_open(
     state: &mut [u64],

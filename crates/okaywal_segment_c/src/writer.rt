@@ -1,7 +1,7 @@
-// The writer's calls.
+//! The writer's calls.
 ghost use Rattle.okaywal_segment.specs.WriterPromises.{BeginAllows, BeginChunkAllows, WriteAllows, FinishAllows, CommitAllows, RollbackAllows, RecycleAllows, FlushAllows, SyncAllows, LandStartAllows, LandEndAllows, LandCurrentAllows};
 
-// Begins an entry. Refused with 12, 6 unless idle, 7 where the id is below the segment's, 5 where there is no room.
+/// Begins an entry. Refused with 12, 6 unless idle, 7 where the id is below the segment's, 5 where there is no room.
 #[unsafe(no_mangle)]
 pub extern "C" fn okw_writer_begin(
     state: &mut [u64],
@@ -15,7 +15,7 @@ pub extern "C" fn okw_writer_begin(
     okaywal_segment::writer::okw_writer_begin(state, info, image, staging, entry_id)
 }
 
-// Begins a chunk of length bytes. Refused with 12, 6 unless in an entry with no chunk open, 5 where there is no room.
+/// Begins a chunk of length bytes. Refused with 12, 6 unless in an entry with no chunk open, 5 where there is no room.
 #[unsafe(no_mangle)]
 pub extern "C" fn okw_writer_begin_chunk(
     state: &mut [u64],
@@ -29,7 +29,7 @@ pub extern "C" fn okw_writer_begin_chunk(
     okaywal_segment::writer::okw_writer_begin_chunk(state, info, image, staging, length)
 }
 
-// Takes the first min(offered, owed) bytes, and answers their number. Refused with 12, 6 unless in a chunk.
+/// Takes the first min(offered, owed) bytes, and answers their number. Refused with 12, 6 unless in a chunk.
 #[unsafe(no_mangle)]
 pub extern "C" fn okw_writer_write(
     state: &mut [u64],
@@ -44,7 +44,7 @@ pub extern "C" fn okw_writer_write(
     okaywal_segment::writer::okw_writer_write(state, info, image, staging, bytes, answer)
 }
 
-// Finishes the open chunk: file id, offset of the 02, CRC, length. Refused with 12, 6 unless in a chunk, 8 with bytes owed.
+/// Finishes the open chunk: file id, offset of the 02, CRC, length. Refused with 12, 6 unless in a chunk, 8 with bytes owed.
 #[unsafe(no_mangle)]
 pub extern "C" fn okw_writer_finish(
     state: &mut [u64],
@@ -58,7 +58,7 @@ pub extern "C" fn okw_writer_finish(
     okaywal_segment::writer::okw_writer_finish(state, info, image, staging, answer)
 }
 
-// Commits the entry: its id, and the logical position behind it. Refused with 12, 6 unless in an entry with no chunk open.
+/// Commits the entry: its id, and the logical position behind it. Refused with 12, 6 unless in an entry with no chunk open.
 #[unsafe(no_mangle)]
 pub extern "C" fn okw_writer_commit(
     state: &mut [u64],
@@ -72,7 +72,7 @@ pub extern "C" fn okw_writer_commit(
     okaywal_segment::writer::okw_writer_commit(state, info, image, staging, answer)
 }
 
-// Goes back to the entry's start, also from inside a chunk. Refused with 12, 6 when idle.
+/// Goes back to the entry's start, also from inside a chunk. Refused with 12, 6 when idle.
 #[unsafe(no_mangle)]
 pub extern "C" fn okw_writer_rollback(
     state: &mut [u64],
@@ -85,7 +85,7 @@ pub extern "C" fn okw_writer_rollback(
     okaywal_segment::writer::okw_writer_rollback(state, info, image, staging)
 }
 
-// Begins the segment anew under another id. Refused with 12, 6 unless idle.
+/// Begins the segment anew under another id. Refused with 12, 6 unless idle.
 #[unsafe(no_mangle)]
 pub extern "C" fn okw_writer_recycle(
     state: &mut [u64],
@@ -99,7 +99,7 @@ pub extern "C" fn okw_writer_recycle(
     okaywal_segment::writer::okw_writer_recycle(state, info, image, staging, new_id)
 }
 
-// Staged bytes go to the image. Refused with 12.
+/// Staged bytes go to the image. Refused with 12.
 #[unsafe(no_mangle)]
 pub extern "C" fn okw_writer_flush(
     state: &mut [u64],
@@ -112,7 +112,7 @@ pub extern "C" fn okw_writer_flush(
     okaywal_segment::writer::okw_writer_flush(state, info, image, staging)
 }
 
-// Notes that everything below target is on the device, after a flush where that is wanted. Refused with 12.
+/// Notes that everything below target is on the device, after a flush where that is wanted. Refused with 12.
 #[unsafe(no_mangle)]
 pub extern "C" fn okw_writer_sync(
     state: &mut [u64],
@@ -126,7 +126,7 @@ pub extern "C" fn okw_writer_sync(
     okaywal_segment::writer::okw_writer_sync(state, info, image, staging, target)
 }
 
-// Where a seek to place lands. Refused with 12, 11 past the image size.
+/// Where a seek to place lands. Refused with 12, 11 past the image size.
 #[unsafe(no_mangle)]
 pub extern "C" fn okw_writer_land_start(
     state: &[u64],
@@ -141,7 +141,7 @@ pub extern "C" fn okw_writer_land_start(
     okaywal_segment::writer::okw_writer_land_start(state, info, image, staging, place, answer)
 }
 
-// Where a seek by offset from the file length lands. Refused with 12, 11 below 0 or past the image size.
+/// Where a seek by offset from the file length lands. Refused with 12, 11 below 0 or past the image size.
 #[unsafe(no_mangle)]
 pub extern "C" fn okw_writer_land_end(
     state: &[u64],
@@ -156,7 +156,7 @@ pub extern "C" fn okw_writer_land_end(
     okaywal_segment::writer::okw_writer_land_end(state, info, image, staging, offset, answer)
 }
 
-// Where a seek by offset from the logical position lands. Refused with 12, 11 below 0 or past the image size.
+/// Where a seek by offset from the logical position lands. Refused with 12, 11 below 0 or past the image size.
 #[unsafe(no_mangle)]
 pub extern "C" fn okw_writer_land_current(
     state: &[u64],

@@ -1,224 +1,192 @@
-// `okw new` and `okw append`: the segment is made or added to in memory, and goes to its file whole.
-use crate::entries::Choice;
-use crate::files::{Beside, Loaded, NewFile};
-use crate::outcome::{Outcome, Reason};
-use crate::{arguments, entries, files, outcome, written};
-use log_file::{LastId, opening};
-use segment_reader::survey::SegmentRead;
-use segment_reader::{SegmentReader, survey};
+//! `okw new` and `okw append`: the segment is made or added to in memory, and goes to its file whole.
+ghost use Rattle.std.specs.Prelude.{◌≡◌, IfOk, vec_len};
+
+use crate::arguments::{Argument, Word};
+use crate::entries::Entries;
+use crate::files;
+use crate::files::NewFile;
+use crate::outcome::{Failure, Refused};
+use entry::{EntryId, LARGEST_IMAGE, Refusal};
+use log_file::LogFileWriter;
+use log_file::opening::Terms;
+use log_file::segment::Segment;
+use segment_reader::{WholeEntry, survey};
 use std::fs::File;
-use std::io;
-use std::io::Write;
-use std::rt::{Env, Files};
-use text::Number;
+use std::rt::Files;
+
+/// The longest TEXT.
+const LONGEST: usize = 131_072;
+
+/// A writer for the segment in the image.
+fn opened<'a>(
+    terms: Terms<'_>,
+    image: &'a mut [u8],
+    staging: &'a mut [u8],
+) -> Result<Segment<'a>, Refusal> {
+    let mut writer = LogFileWriter::default();
+    writer.open(terms, image, staging)?;
+    Ok(Segment {
+        writer,
+        image,
+        staging,
+    })
+}
 
 // ---- new
 
-fn make(id: u64, image: &mut [u8]) -> Reason {
-    let mut staging = [0u8; 64];
-    let size = image.len() as u64;
-    let done = opening::open(id, LastId::Nothing, b"", 0, 0, size, image, &mut staging);
-    let answer = done.answer;
-    written::reason_by(answer)
+/// The bytes of a fresh segment.
+fn fresh<R: AllocGlobal>(rt: &R, id: u64, size: u64) -> Result<Vec<u8>, Failure>
+    ensures { IfOk result (λ bytes. vec_len bytes ≡ size) }
+{
+    if size > LARGEST_IMAGE as u64 {
+        return Err(Failure::TooLarge);
+    }
+    let mut image = vec![in rt.alloc(); 0u8; size as usize]?;
+    let terms = Terms {
+        id,
+        last: None,
+        version_info: &[],
+        validated_length: 0,
+        file_length: 0,
+        preallocate: size,
+    };
+    opened(terms, image.as_mut_slice(), &mut [0; 64])?;
+    Ok(image)
 }
 
-fn new_file(rt: &(impl Env + Files<File = File>), image: &mut [u8], id: u64, size: u64) -> Outcome {
-    if size > image.len() as u64 {
-        return outcome::of(Reason::TooLarge, 4);
-    }
-    let n = lists::smaller(size as usize, image.len());
-    let reason = make(id, &mut image[..n]);
-    if !outcome::is_fine(reason) {
-        return outcome::of(reason, 4);
-    }
-    outcome::of(files::create(rt, 2, text::first(image, n)), 2)
-}
-
-pub(crate) fn new(rt: &(impl Env + Files<File = File>), image: &mut [u8]) -> Outcome {
-    match arguments::number(rt, 3) {
-        Number::Not => outcome::of(Reason::NotNumber, 3),
-        Number::Of(id) => match arguments::number(rt, 4) {
-            Number::Not => outcome::of(Reason::NotNumber, 4),
-            Number::Of(size) => new_file(rt, image, id, size),
-        },
-    }
+pub(crate) fn new<'a>(
+    rt: &(impl Files<File = File> + AllocGlobal),
+    file: Argument<'a>,
+    id: Argument<'a>,
+    size: Argument<'a>,
+) -> Result<(), Refused<'a>> {
+    let segment = id.number()?;
+    let bytes = size.number()?;
+    let image = fresh(rt, segment, bytes).map_err(|failure| size.refused(failure))?;
+    files::create(rt, file, image.as_slice()).map_err(|failure| file.refused(failure))
 }
 
 // ---- append
 
-// The segment's version info.
-#[derive(Clone, Copy)]
-pub struct Info {
-    bytes: [u8; 255],
-    length: usize,
-}
-
-fn info_of(image: &[u8], id: u64) -> Info {
-    let opening = SegmentReader::new(image, id);
-    let reader = opening.reader;
-    let found = text::first(reader.version_info(image), 255);
-    let mut bytes = [0u8; 255];
-    lists::copy_at(&mut bytes, 0, found);
-    Info {
-        bytes,
-        length: found.len(),
-    }
-}
-
-// One entry more behind the valid bytes, in a file that keeps its size.
-fn append_at(rt: &impl Env, image: &mut [u8], id: u64, valid_until: u64, entry: u64) -> Reason {
-    let mut staging = [0u8; 4096];
-    let info = info_of(image, id);
-    let bytes = info.bytes;
-    let size = image.len() as u64;
-    let done = opening::open(
-        id,
-        LastId::Nothing,
-        text::first(&bytes, info.length),
-        valid_until,
-        size,
-        size,
-        image,
-        &mut staging,
-    );
-    let writer = done.writer;
-    let answer = done.answer;
-    let reason = written::reason_by(answer);
-    if !outcome::is_fine(reason) {
-        return reason;
-    }
-    written::put_entry(rt, writer, image, &mut staging, entry)
-}
-
-// The reading ends past the file: the last entry that it met is cut, or a chunk behind it.
-fn cut_entry(out: &mut impl Write, image: &[u8], id: u64, valid_until: u64) -> io::Result<Reason> {
-    let opening = SegmentReader::new(image, id);
-    let reader = opening.reader;
-    let reading = entries::read(out, reader, image, Choice::Nothing)?;
-    if reading.complete {
-        return Ok(Reason::CutBehind {
-            offset: reading.last,
+/// The reading ends past the file: the last entry that it met is cut, or a chunk behind it.
+fn cut(image: &[u8], id: u64, valid_until: u64) -> Result<Failure, Refusal> {
+    Ok(match Entries::open(image, id)?.all().last() {
+        Some(Ok(entry)) => match entry.whole {
+            Ok(WholeEntry::Whole { .. }) => Failure::CutBehind {
+                offset: entry.offset,
+                valid_until,
+            },
+            _ => Failure::CutEntry {
+                offset: entry.offset,
+                valid_until,
+            },
+        },
+        Some(Err(cut)) => Failure::CutEntry {
+            offset: cut.mark,
             valid_until,
-        });
-    }
-    Ok(Reason::CutEntry {
-        offset: reading.last,
-        valid_until,
+        },
+        None => Failure::CutEntry {
+            offset: 0,
+            valid_until,
+        },
     })
 }
 
-// The file is read as at power-up, to the end of its valid bytes.
-fn append_to(
-    rt: &impl Env,
-    out: &mut impl Write,
-    image: &mut [u8],
+/// The end of the valid bytes, which must lie in the file.
+fn valid_until(image: &[u8], id: u64) -> Result<u64, Failure> {
+    let valid_until = survey::read_segment(image, id, &mut [])?.valid_until;
+    if valid_until > image.len() as u64 {
+        return Err(cut(image, id, valid_until)?);
+    }
+    Ok(valid_until)
+}
+
+fn put_chunk(segment: &mut Segment<'_>, text: &[u8]) -> Result<(), Failure> {
+    if text.len() > LONGEST {
+        return Err(Failure::TooLong);
+    }
+    segment.begin_chunk(text.len() as u32)?;
+    segment.write(text)?;
+    segment.finish()?;
+    Ok(())
+}
+
+/// Writes, commits and flushes an entry with a chunk for each text.
+fn put_entry(segment: &mut Segment<'_>, id: EntryId, texts: &[Word]) -> Result<(), Failure> {
+    segment.begin_entry(id)?;
+    for text in texts {
+        put_chunk(segment, text.bytes())?;
+    }
+    segment.commit()?;
+    segment.flush()?;
+    Ok(())
+}
+
+/// An entry to append to the segment in a file.
+#[derive(Clone, Copy)]
+struct Addition<'a> {
+    file: Argument<'a>,
     id: u64,
-    entry: u64,
-) -> io::Result<Reason> {
-    let mut unrecorded = [0u64; 4];
-    match survey::read_segment(image, id, &mut unrecorded) {
-        SegmentRead::Refused(no) => Ok(Reason::Refused(no)),
-        SegmentRead::Read {
-            met: _,
-            complete: _,
-            valid_until,
-        } => {
-            if valid_until > image.len() as u64 {
-                return cut_entry(out, image, id, valid_until);
+    entry: EntryId,
+    texts: &'a [Word],
+}
+
+impl Addition<'_> {
+    /// The file's bytes with the entry in them, in memory: one entry more behind the valid bytes, in a file that keeps its size. The file is read as at
+    /// power-up.
+    fn in_memory<R: Files<File = File> + AllocGlobal>(&self, rt: &R) -> Result<Vec<u8>, Failure> {
+        let mut image = files::load(rt, self.file, true)?;
+        let size = image.len() as u64;
+        let validated_length = valid_until(image.as_slice(), self.id)?;
+        let info = Entries::open(image.as_slice(), self.id)?.version_info();
+        let info = Vec::from_slice(rt.alloc(), info)?;
+        let terms = Terms {
+            id: self.id,
+            last: None,
+            version_info: info.as_slice(),
+            validated_length,
+            file_length: size,
+            preallocate: size,
+        };
+        // of a fixed size, as it was: what is stored when follows from it
+        let mut staging = [0; 4096];
+        let mut segment = opened(terms, image.as_mut_slice(), &mut staging)?;
+        put_entry(&mut segment, self.entry, self.texts)?;
+        Ok(image)
+    }
+
+    /// What is refused is refused before anything is made; what is not is done once more with the new file there, so that the file stays as it is read then.
+    fn append<R: Files<File = File> + AllocGlobal>(&self, rt: &R) -> Result<(), Failure> {
+        self.in_memory(rt)?;
+        let new = NewFile::make(rt, self.file.path()?)?;
+        match self.in_memory(rt) {
+            Ok(image) => new.replace(rt, image.as_slice()),
+            Err(failure) => {
+                new.remove(rt);
+                Err(failure)
             }
-            Ok(append_at(rt, image, id, valid_until, entry))
         }
     }
 }
 
-// The file's bytes with the entry in them, in memory.
-fn append_in_memory(
-    rt: &(impl Env + Files<File = File>),
-    out: &mut impl Write,
-    image: &mut [u8],
-    id: u64,
-    entry: u64,
-) -> io::Result<Loaded> {
-    match files::load(rt, 2, image, true) {
-        Loaded::Failed(reason) => Ok(Loaded::Failed(reason)),
-        Loaded::Bytes(size) => {
-            let n = lists::smaller(size, image.len());
-            let reason = append_to(rt, out, &mut image[..n], id, entry)?;
-            if !outcome::is_fine(reason) {
-                return Ok(Loaded::Failed(reason));
-            }
-            Ok(Loaded::Bytes(n))
+pub(crate) fn append<'a>(
+    rt: &(impl Files<File = File> + AllocGlobal),
+    file: Argument<'a>,
+    id: Argument<'a>,
+    entry: Argument<'a>,
+    texts: &'a [Word],
+) -> Result<(), Refused<'a>> {
+    let addition = Addition {
+        file,
+        id: id.number()?,
+        entry: entry.number()?,
+        texts,
+    };
+    match addition.append(rt) {
+        Ok(()) => Ok(()),
+        Err(Failure::Refused(Refusal::LowId)) => {
+            Err(entry.refused(Failure::Refused(Refusal::LowId)))
         }
-    }
-}
-
-// The new file is there, so the file stays as it is read now.
-fn append_alone(
-    rt: &(impl Env + Files<File = File>),
-    out: &mut impl Write,
-    new: NewFile,
-    image: &mut [u8],
-    id: u64,
-    entry: u64,
-) -> io::Result<Reason> {
-    match append_in_memory(rt, out, image, id, entry) {
-        Ok(Loaded::Failed(reason)) => Ok(files::remove_beside(rt, 2, new, reason)),
-        Ok(Loaded::Bytes(n)) => Ok(files::replace(rt, 2, new, text::first(image, n))),
-        Err(error) => {
-            files::remove_beside(rt, 2, new, Reason::System(error.kind()));
-            Err(error)
-        }
-    }
-}
-
-// What is refused is refused before anything is made; what is not is done once more with the new file there.
-fn append_file(
-    rt: &(impl Env + Files<File = File>),
-    out: &mut impl Write,
-    image: &mut [u8],
-    id: u64,
-    entry: u64,
-) -> io::Result<Reason> {
-    match append_in_memory(rt, out, image, id, entry)? {
-        Loaded::Failed(reason) => Ok(reason),
-        Loaded::Bytes(_) => match files::make_beside(rt, 2) {
-            Beside::Failed(reason) => Ok(reason),
-            Beside::Made(new) => append_alone(rt, out, new, image, id, entry),
-        },
-    }
-}
-
-// The argument that a reason is about: the entry's id, or the file.
-fn about(reason: Reason) -> usize {
-    if let Reason::Refused(no) = reason {
-        if no == 7 {
-            return 4;
-        }
-    }
-    2
-}
-
-fn appended(
-    rt: &(impl Env + Files<File = File>),
-    out: &mut impl Write,
-    image: &mut [u8],
-    id: u64,
-    entry: u64,
-) -> io::Result<Outcome> {
-    let reason = append_file(rt, out, image, id, entry)?;
-    Ok(outcome::of(reason, about(reason)))
-}
-
-pub(crate) fn append(
-    rt: &(impl Env + Files<File = File>),
-    out: &mut impl Write,
-    image: &mut [u8],
-) -> io::Result<Outcome> {
-    match arguments::number(rt, 3) {
-        Number::Not => Ok(outcome::of(Reason::NotNumber, 3)),
-        Number::Of(id) => match arguments::number(rt, 4) {
-            Number::Not => Ok(outcome::of(Reason::NotNumber, 4)),
-            Number::Of(entry) => appended(rt, out, image, id, entry),
-        },
+        Err(failure) => Err(file.refused(failure)),
     }
 }

@@ -1,181 +1,183 @@
-// The words of the command line.
-ghost use Rattle.std.specs.Prelude.{◌≤◌, length};
-
-use crate::outcome::{Outcome, Reason};
-use crate::{outcome, say};
+//! The words of the command line, and what they ask for.
+use crate::outcome::{Failure, Refused};
 use std::env::FillError;
-use std::io;
-use std::io::Write;
+use std::io::{ErrorKind, Write};
 use std::rt::Env;
-use text::Number;
+use std::{io, str};
 
+/// The longest name and the longest number that are looked at.
+const LONGEST: usize = 4096;
+
+/// A word of the command line, any bytes, and its place there.
+// Drop alone: what owns memory has no copy
+#[derive(Drop)]
+pub struct Word {
+    place: usize,
+    bytes: Vec<u8>,
+}
+
+/// A word in its role: FILE, ID, ENTRY, SIZE or ENTRY_ID, or nothing for the command itself.
 #[derive(Clone, Copy)]
-pub enum Command {
-    List,
-    Show,
-    New,
-    Append,
-    Unknown,
+pub struct Argument<'a> {
+    role: &'a str,
+    place: usize,
+    bytes: &'a [u8],
 }
 
-// Stores the argument, and answers its length; 0 where it is missing or longer than the buffer.
-pub(crate) fn stored(rt: &impl Env, i: usize, word: &mut [u8]) -> usize
-    ensures { result ≤ length word.new }
-{
-    rt.arg(i, word).unwrap_or(0)
+pub enum Command<'a> {
+    List {
+        segments: &'a [Word],
+    },
+    Show {
+        file: Argument<'a>,
+        id: Argument<'a>,
+        entry: Argument<'a>,
+    },
+    New {
+        file: Argument<'a>,
+        id: Argument<'a>,
+        size: Argument<'a>,
+    },
+    Append {
+        file: Argument<'a>,
+        id: Argument<'a>,
+        entry: Argument<'a>,
+        texts: &'a [Word],
+    },
 }
 
-// How many words there are, the program's name among them.
-pub(crate) fn count(rt: &impl Env) -> usize {
-    for i in 0..usize::MAX {
-        if let Err(FillError::NotPresent) = rt.arg(i, &mut []) {
-            return i;
+/// The word at this place, in a room that is doubled until the word fits.
+fn read<R: Env + AllocGlobal>(rt: &R, place: usize) -> io::Result<Option<Word>> {
+    for power in 6u32..32 {
+        let mut bytes = vec![in rt.alloc(); 0u8; 1usize << power]?;
+        match rt.arg(place, bytes.as_mut_slice()) {
+            Ok(length) => {
+                bytes.truncate(length);
+                return Ok(Some(Word { place, bytes }));
+            }
+            Err(FillError::NotPresent) => return Ok(None),
+            Err(FillError::TooLong) => {}
         }
     }
-    usize::MAX
+    Err(io::Error::from(ErrorKind::ArgumentListTooLong))
 }
 
-fn named(word: &[u8]) -> Command {
-    if text::same(word, b"list") {
-        return Command::List;
+/// All words, the program's name among them.
+pub(crate) fn words<R: Env + AllocGlobal>(rt: &R) -> io::Result<Vec<Word>> {
+    let mut words = Vec::new(rt.alloc());
+    for place in 0..usize::MAX {
+        match read(rt, place)? {
+            Some(word) => words.push(word)?,
+            None => break,
+        }
     }
-    if text::same(word, b"show") {
-        return Command::Show;
-    }
-    if text::same(word, b"new") {
-        return Command::New;
-    }
-    if text::same(word, b"append") {
-        return Command::Append;
-    }
-    Command::Unknown
+    Ok(words)
 }
 
-// The command that the first word names, where as many words follow as it expects.
-pub(crate) fn asked(rt: &impl Env) -> Command {
-    let command = meant(rt);
-    if suits(command, count(rt)) {
-        return command;
+impl Word {
+    pub(crate) fn bytes(&self) -> &[u8] {
+        self.bytes.as_slice()
     }
-    Command::Unknown
+
+    pub(crate) fn argument<'a>(&'a self, role: &'a str) -> Argument<'a> {
+        Argument {
+            role,
+            place: self.place,
+            bytes: self.bytes.as_slice(),
+        }
+    }
 }
 
-fn suits(command: Command, count: usize) -> bool {
+impl<'a> Argument<'a> {
+    /// The name of a file. One that is not UTF-8 is none that std can open.
+    pub(crate) fn path(self) -> Result<&'a str, Failure> {
+        if self.bytes.len() > LONGEST {
+            return Err(Failure::System(ErrorKind::InvalidFilename));
+        }
+        str::from_utf8(self.bytes).map_err(|_| Failure::System(ErrorKind::InvalidInput))
+    }
+
+    pub(crate) fn number(self) -> Result<u64, Refused<'a>> {
+        if self.bytes.len() > LONGEST {
+            return Err(self.refused(Failure::NotNumber));
+        }
+        text::decimal(self.bytes).ok_or(self.refused(Failure::NotNumber))
+    }
+
+    pub(crate) fn refused(self, failure: Failure) -> Refused<'a> {
+        Refused {
+            argument: self,
+            failure,
+        }
+    }
+
+    // By hand, with `put_in_role` and `Refused::put`: a word may be no UTF-8, and `Display` writes text.
+    /// As it is, but for control characters: these as `\x0a`, so that a word stays on its line. Its place where it is empty, missing or too long.
+    pub(crate) fn put(self, out: &mut impl Write) -> io::Result<()> {
+        if self.bytes.is_empty() || self.bytes.len() > LONGEST {
+            return write!(out, "argument {}", self.place);
+        }
+        for byte in self.bytes {
+            if byte.is_ascii_control() {
+                write!(out, "\\x{byte:02x}")?;
+            } else {
+                out.write_all(&[*byte])?;
+            }
+        }
+        Ok(())
+    }
+
+    /// The role before it.
+    pub(crate) fn put_in_role(self, out: &mut impl Write) -> io::Result<()> {
+        if !self.role.is_empty() {
+            write!(out, "{} ", self.role)?;
+        }
+        self.put(out)
+    }
+}
+
+/// What the command wants behind it.
+fn expected(command: &str) -> &'static str {
     match command {
-        Command::List => (count >= 4) & (count % 2 == 0),
-        Command::Show => count == 5,
-        Command::New => count == 5,
-        Command::Append => count >= 6,
-        Command::Unknown => false,
+        "list" => "expected FILE ID, once or more",
+        "show" => "expected FILE ID ENTRY",
+        "new" => "expected FILE ID SIZE",
+        "append" => "expected FILE ID ENTRY_ID and at least one TEXT",
+        _ => "expected list, show, new or append",
     }
 }
 
-pub(crate) fn usage(out: &mut impl Write) -> io::Result<Outcome> {
-    say::text(
-        out,
-        b"okw list FILE ID [FILE ID ...]         every entry and chunk of each segment\n",
-    )?;
-    say::text(
-        out,
-        b"okw show FILE ID ENTRY                 the bytes of the entries with the id ENTRY\n",
-    )?;
-    say::text(
-        out,
-        b"okw new FILE ID SIZE                   a fresh segment of SIZE bytes\n",
-    )?;
-    say::text(
-        out,
-        b"okw append FILE ID ENTRY_ID TEXT ...   one entry more, with a chunk for each TEXT\n",
-    )?;
-    Ok(outcome::of(Reason::Usage, 1))
-}
-
-// The command that the first word names, whatever follows.
-fn meant(rt: &impl Env) -> Command {
-    let mut word = [0u8; 8];
-    let n = stored(rt, 1, &mut word);
-    named(&word[..n])
-}
-
-// What the first word wants behind it.
-pub(crate) fn put_expected(rt: &impl Env, out: &mut impl Write) -> io::Result<()> {
-    match meant(rt) {
-        Command::List => say::text(out, b"expected FILE ID, once or more"),
-        Command::Show => say::text(out, b"expected FILE ID ENTRY"),
-        Command::New => say::text(out, b"expected FILE ID SIZE"),
-        Command::Append => say::text(out, b"expected FILE ID ENTRY_ID and at least one TEXT"),
-        Command::Unknown => say::text(out, b"expected list, show, new or append"),
-    }
-}
-
-fn put_fourth(out: &mut impl Write, command: Command) -> io::Result<()> {
-    match command {
-        Command::List => say::text(out, b"FILE "),
-        Command::Show => say::text(out, b"ENTRY "),
-        Command::New => say::text(out, b"SIZE "),
-        Command::Append => say::text(out, b"ENTRY_ID "),
-        Command::Unknown => say::text(out, b""),
-    }
-}
-
-// What the argument stands for: FILE and ID in turn, but for the fourth.
-pub(crate) fn put_role(rt: &impl Env, out: &mut impl Write, i: usize) -> io::Result<()> {
-    if i < 2 {
-        return Ok(());
-    }
-    if i == 4 {
-        return put_fourth(out, meant(rt));
-    }
-    if i % 2 == 0 {
-        say::text(out, b"FILE ")
-    } else {
-        say::text(out, b"ID ")
-    }
-}
-
-// The argument itself; its number where it is empty, missing or longer than a path.
-pub(crate) fn put_word(rt: &impl Env, out: &mut impl Write, i: usize) -> io::Result<()> {
-    let mut word = [0u8; 4096];
-    let n = stored(rt, i, &mut word);
-    if n == 0 {
-        return say::with(out, b"argument ", i as u64);
-    }
-    put_printed(out, &word[..n])
-}
-
-// As it is, but for control characters: these as `\x0a`, so that a word stays on its line.
-fn put_printed(out: &mut impl Write, word: &[u8]) -> io::Result<()> {
-    let mut i = 0;
-    while i < word.len() {
-        put_character(out, word[i])?;
-        i += 1;
-    }
-    Ok(())
-}
-
-fn put_character(out: &mut impl Write, c: u8) -> io::Result<()> {
-    match c {
-        0..=31 | 127 => {
-            say::text(out, b"\\x")?;
-            say::byte(out, c)
-        }
-        _ => {
-            let one = [c];
-            say::text(out, &one)
+impl<'a> Command<'a> {
+    /// The command that the first word names, where as many words follow as it expects.
+    pub(crate) fn asked(words: &'a [Word]) -> Result<Command<'a>, Refused<'a>> {
+        let [_, command, rest @ ..] = words else {
+            let missing = Argument {
+                role: "",
+                place: 1,
+                bytes: &[],
+            };
+            return Err(missing.refused(Failure::Usage(expected(""))));
+        };
+        let name = str::from_utf8(command.bytes()).unwrap_or("");
+        match (name, rest) {
+            ("list", [_, _, ..]) if rest.len() % 2 == 0 => Ok(Command::List { segments: rest }),
+            ("show", [file, id, entry]) => Ok(Command::Show {
+                file: file.argument("FILE"),
+                id: id.argument("ID"),
+                entry: entry.argument("ENTRY"),
+            }),
+            ("new", [file, id, size]) => Ok(Command::New {
+                file: file.argument("FILE"),
+                id: id.argument("ID"),
+                size: size.argument("SIZE"),
+            }),
+            ("append", [file, id, entry, texts @ ..]) if !texts.is_empty() => Ok(Command::Append {
+                file: file.argument("FILE"),
+                id: id.argument("ID"),
+                entry: entry.argument("ENTRY_ID"),
+                texts,
+            }),
+            _ => Err(command.argument("").refused(Failure::Usage(expected(name)))),
         }
     }
-}
-
-pub(crate) fn number(rt: &impl Env, i: usize) -> Number {
-    let mut word = [0u8; 4096];
-    let n = stored(rt, i, &mut word);
-    text::decimal(&word[..n])
-}
-
-// The place of the argument behind.
-pub(crate) fn after(i: usize) -> usize {
-    if i == 18446744073709551615 {
-        return i;
-    }
-    i + 1
 }

@@ -1,190 +1,169 @@
-// `okw list` and `okw show`.
-use crate::entries::{Choice, Reading};
-use crate::files::Loaded;
-use crate::outcome::{Outcome, Reason};
-use crate::{arguments, entries, files, outcome, say};
-use segment_reader::{OpenAnswer, SegmentReader};
+//! `okw list` and `okw show`.
+use crate::arguments::{Argument, Word};
+use crate::chunks::Count;
+use crate::entries::{Entries, Entry};
+use crate::outcome::{Ended, Failure, Numbered};
+use crate::{dump, files};
+use entry::{EntryId, Refusal};
 use std::fs::File;
 use std::io;
 use std::io::Write;
-use std::rt::{Env, Files};
-use text::Number;
-
-// As `segment FILE, id 1, 64 bytes`.
-fn put_head(
-    rt: &impl Env,
-    out: &mut impl Write,
-    argument: usize,
-    id: u64,
-    size: usize,
-) -> io::Result<()> {
-    say::text(out, b"segment ")?;
-    arguments::put_word(rt, out, argument)?;
-    say::with(out, b", id ", id)?;
-    say::text(out, b", ")?;
-    say::count(out, size as u64, b"byte")?;
-    say::end_line(out)
-}
+use std::rt::Files;
 
 fn put_info(out: &mut impl Write, info: &[u8]) -> io::Result<()> {
-    say::text(out, b"version info, ")?;
-    say::count(out, info.len() as u64, b"byte")?;
-    if info.len() > 0 {
-        say::text(out, b":")?;
+    write!(out, "version info, {}", Count(info.len() as u64, "byte"))?;
+    if !info.is_empty() {
+        write!(out, ":")?;
     }
-    let mut i = 0;
-    while i < info.len() {
-        say::text(out, b" ")?;
-        say::byte(out, info[i])?;
-        i += 1;
+    for byte in info {
+        write!(out, " {byte:02x}")?;
     }
-    say::end_line(out)
+    writeln!(out)
 }
 
-fn put_end(out: &mut impl Write, reading: Reading, size: usize, info: &[u8]) -> io::Result<()> {
-    say::with(out, b"valid_until ", reading.valid_until)?;
-    if reading.valid_until > size as u64 {
-        say::text(out, b", past the file")?;
+/// The entry's line and those of its chunks.
+fn put_entry(out: &mut impl Write, entry: &Entry<'_>) -> io::Result<()> {
+    writeln!(out, "{entry}")?;
+    for chunk in entry.chunks() {
+        writeln!(out, "{chunk}")?;
     }
-    say::end_line(out)?;
-    put_info(out, info)
+    Ok(())
 }
 
-// A segment that could not be read, in its place among the others.
-fn unread(
-    rt: &impl Env,
-    out: &mut impl Write,
-    argument: usize,
-    reason: Reason,
-) -> io::Result<Outcome> {
-    say::text(out, b"segment ")?;
-    arguments::put_word(rt, out, argument)?;
-    say::text(out, b": ")?;
-    outcome::put_reason(rt, out, reason)?;
-    say::end_line(out)?;
-    Ok(outcome::of(reason, argument))
+/// The same, with the chunks' bytes.
+// one function for both would take a flag and test it in the loop: no plainer
+fn dump_entry(out: &mut impl Write, entry: &Entry<'_>) -> io::Result<()> {
+    writeln!(out, "{entry}")?;
+    for chunk in entry.chunks() {
+        writeln!(out, "{chunk}")?;
+        let (bytes, offset) = chunk.bytes();
+        dump::put(out, bytes, offset)?;
+    }
+    Ok(())
 }
 
-fn without_id(rt: &impl Env, out: &mut impl Write, argument: usize) -> io::Result<Outcome> {
-    say::text(out, b"segment ")?;
-    arguments::put_word(rt, out, argument)?;
-    say::text(out, b": its ID is no number\n")?;
-    Ok(outcome::of(Reason::NotNumber, arguments::after(argument)))
-}
-
-fn list_segment(out: &mut impl Write, image: &[u8], id: u64) -> io::Result<Reason> {
-    let opening = SegmentReader::new(image, id);
-    let reader = opening.reader;
-    let answer = opening.answer;
-    match answer {
-        OpenAnswer::Opened => {
-            let reading = entries::read(out, reader, image, Choice::All)?;
-            put_end(out, reading, image.len(), reader.version_info(image))?;
-            Ok(reading.reason)
+/// All entries of a segment and its end; the first refusal that was met.
+fn list_segment(out: &mut impl Write, image: &[u8], id: u64) -> io::Result<Result<(), Refusal>> {
+    let mut entries = match Entries::open(image, id) {
+        Ok(entries) => entries,
+        Err(refusal) => {
+            writeln!(out, "refused {}", Numbered(refusal))?;
+            return Ok(Err(refusal));
         }
-        OpenAnswer::Refused(no) => {
-            say::text(out, b"refused ")?;
-            outcome::put_number(out, no)?;
-            say::end_line(out)?;
-            Ok(Reason::Refused(no))
+    };
+    let info = entries.version_info();
+    let mut first = Ok(());
+    for met in entries.by_ref().take(image.len()) {
+        match met {
+            Ok(entry) => {
+                put_entry(out, &entry)?;
+                first = first.and(entry.whole.map(|_| ()));
+            }
+            Err(cut) => {
+                let refusal = Refusal::Cut(cut);
+                writeln!(out, "cut at {}: refused {}", cut.mark, Numbered(refusal))?;
+                first = first.and(Err(refusal));
+            }
         }
     }
-}
-
-fn listed(
-    rt: &impl Env,
-    out: &mut impl Write,
-    argument: usize,
-    image: &[u8],
-    id: u64,
-) -> io::Result<Outcome> {
-    put_head(rt, out, argument, id, image.len())?;
-    Ok(outcome::of(list_segment(out, image, id)?, argument))
-}
-
-// The segment in the file that the argument names, with the id behind it.
-fn list_file(
-    rt: &(impl Env + Files<File = File>),
-    out: &mut impl Write,
-    argument: usize,
-    image: &mut [u8],
-) -> io::Result<Outcome> {
-    match arguments::number(rt, arguments::after(argument)) {
-        Number::Not => without_id(rt, out, argument),
-        Number::Of(id) => match files::load(rt, argument, image, false) {
-            Loaded::Failed(reason) => unread(rt, out, argument, reason),
-            Loaded::Bytes(n) => listed(rt, out, argument, text::first(image, n), id),
-        },
+    let valid_until = entries.valid_until();
+    write!(out, "valid_until {valid_until}")?;
+    if valid_until > image.len() as u64 {
+        write!(out, ", past the file")?;
     }
+    writeln!(out)?;
+    put_info(out, info)?;
+    Ok(first)
 }
 
-fn first(a: Outcome, b: Outcome) -> Outcome {
-    let reason = a.reason;
-    if outcome::is_fine(reason) { b } else { a }
+/// The beginning of a file's line. It comes behind the reading: where output goes to that very file, it has not grown by then.
+fn put_head(out: &mut impl Write, file: Argument<'_>) -> io::Result<()> {
+    write!(out, "segment ")?;
+    file.put(out)
 }
 
-// As many files as there are pairs behind the first two words.
-pub(crate) fn list(
-    rt: &(impl Env + Files<File = File>),
+/// The segment in the file, or why it could not be read, in its place among the others.
+fn list_file<'a>(
+    rt: &(impl Files<File = File> + AllocGlobal),
     out: &mut impl Write,
-    image: &mut [u8],
-) -> io::Result<Outcome> {
-    let mut outcome = outcome::of(Reason::Fine, 0);
-    let mut i = 2;
-    let mut pairs = arguments::count(rt) / 2;
-    while pairs > 1 {
-        outcome = first(outcome, list_file(rt, out, i, image)?);
-        i = arguments::after(arguments::after(i));
-        pairs -= 1;
-    }
-    Ok(outcome)
+    file: Argument<'a>,
+    id: Argument<'a>,
+) -> Result<(), Ended<'a>> {
+    let number = match id.number() {
+        Ok(number) => number,
+        Err(refused) => {
+            put_head(out, file)?;
+            writeln!(out, ": its ID is no number")?;
+            return Err(Ended::from(refused));
+        }
+    };
+    let image = match files::load(rt, file, false) {
+        Ok(image) => image,
+        Err(failure) => {
+            put_head(out, file)?;
+            writeln!(out, ": {failure}")?;
+            return Err(Ended::from(file.refused(failure)));
+        }
+    };
+    put_head(out, file)?;
+    writeln!(out, ", id {number}, {}", Count(image.len() as u64, "byte"))?;
+    let listed = list_segment(out, image.as_slice(), number)?;
+    Ok(listed.map_err(|refusal| file.refused(Failure::Refused(refusal)))?)
 }
 
-fn show_segment(out: &mut impl Write, image: &[u8], id: u64, entry: u64) -> io::Result<Reason> {
-    let opening = SegmentReader::new(image, id);
-    let reader = opening.reader;
-    let answer = opening.answer;
-    if let OpenAnswer::Refused(no) = answer {
-        return Ok(Reason::Refused(no));
-    }
-    let reading = entries::read(out, reader, image, Choice::Of(entry))?;
-    if !reading.shown {
-        return Ok(Reason::NoEntry);
-    }
-    Ok(reading.reason)
-}
-
-// The argument that a reason is about: the entry's id, or the file.
-fn about(reason: Reason) -> usize {
-    if let Reason::NoEntry = reason { 4 } else { 2 }
-}
-
-fn show_file(
-    rt: &(impl Env + Files<File = File>),
+/// Each file with its id; the first refusal of them all.
+pub(crate) fn list<'a>(
+    rt: &(impl Files<File = File> + AllocGlobal),
     out: &mut impl Write,
-    image: &mut [u8],
-    id: u64,
-    entry: u64,
-) -> io::Result<Outcome> {
-    match files::load(rt, 2, image, false) {
-        Loaded::Failed(reason) => Ok(outcome::of(reason, 2)),
-        Loaded::Bytes(n) => {
-            let reason = show_segment(out, text::first(image, n), id, entry)?;
-            Ok(outcome::of(reason, about(reason)))
+    segments: &'a [Word],
+) -> Result<(), Ended<'a>> {
+    let mut first = Ok(());
+    for segment in segments.chunks_exact(2) {
+        let [file, id] = segment else {
+            continue;
+        };
+        match list_file(rt, out, file.argument("FILE"), id.argument("ID")) {
+            Ok(()) => {}
+            Err(Ended::Refused(refused)) => first = first.and(Err(refused)),
+            Err(Ended::Output(error)) => return Err(Ended::Output(error)),
         }
     }
+    Ok(first?)
 }
 
-pub(crate) fn show(
-    rt: &(impl Env + Files<File = File>),
+/// The entries with the id; the first refusal among them, where there is one with it.
+fn show_entries(
     out: &mut impl Write,
-    image: &mut [u8],
-) -> io::Result<Outcome> {
-    match arguments::number(rt, 3) {
-        Number::Not => Ok(outcome::of(Reason::NotNumber, 3)),
-        Number::Of(id) => match arguments::number(rt, 4) {
-            Number::Not => Ok(outcome::of(Reason::NotNumber, 4)),
-            Number::Of(entry) => show_file(rt, out, image, id, entry),
-        },
+    entries: Entries<'_>,
+    wanted: EntryId,
+) -> io::Result<Option<Result<(), Refusal>>> {
+    let mut shown = None;
+    for met in entries.all() {
+        if let Ok(entry) = met {
+            if entry.id == wanted {
+                dump_entry(out, &entry)?;
+                shown = Some(shown.unwrap_or(Ok(())).and(entry.whole.map(|_| ())));
+            }
+        }
+    }
+    Ok(shown)
+}
+
+pub(crate) fn show<'a>(
+    rt: &(impl Files<File = File> + AllocGlobal),
+    out: &mut impl Write,
+    file: Argument<'a>,
+    id: Argument<'a>,
+    entry: Argument<'a>,
+) -> Result<(), Ended<'a>> {
+    let segment = id.number()?;
+    let wanted = entry.number()?;
+    let image = files::load(rt, file, false).map_err(|failure| file.refused(failure))?;
+    let entries = Entries::open(image.as_slice(), segment).map_err(|refusal| file.refused(
+        Failure::Refused(refusal),
+    ))?;
+    match show_entries(out, entries, wanted)? {
+        Some(shown) => Ok(shown.map_err(|refusal| file.refused(Failure::Refused(refusal)))?),
+        None => Err(Ended::from(entry.refused(Failure::NoEntry))),
     }
 }

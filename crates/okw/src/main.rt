@@ -1,14 +1,12 @@
-// okw, a program over segment files for the shop and the bench, thin over the proved calls of log_file and segment_reader:
-//
-//     okw list FILE ID [FILE ID ...]         every entry and chunk of each segment
-//     okw show FILE ID ENTRY                 the bytes of the entries with the id ENTRY
-//     okw new FILE ID SIZE                   a fresh segment of SIZE bytes
-//     okw append FILE ID ENTRY_ID TEXT ...   one entry more, with a chunk for each TEXT
-//
-// The last line says `ok`, or what was refused and why; a refused run leaves every file as it was.
+//! okw, a program over segment files for the shop and the bench, thin over the proved calls of log_file and segment_reader:
+//!
+//!     okw list FILE ID [FILE ID ...]         every entry and chunk of each segment
+//!     okw show FILE ID ENTRY                 the bytes of the entries with the id ENTRY
+//!     okw new FILE ID SIZE                   a fresh segment of SIZE bytes
+//!     okw append FILE ID ENTRY_ID TEXT ...   one entry more, with a chunk for each TEXT
+//!
+//! The last line says `ok`, or what was refused and why; a refused run leaves every file as it was.
 #![tactic(auto)]
-
-ghost use Rattle.std.specs.Prelude.{◌≡◌, length};
 
 mod append;
 mod arguments;
@@ -19,41 +17,51 @@ mod files;
 mod list;
 mod modes;
 mod outcome;
-mod say;
-mod written;
 
-use arguments::Command;
-use outcome::Outcome;
+use arguments::{Command, Word};
+use outcome::Ended;
 use std::fs::File;
 use std::io;
 use std::io::Write;
-use std::rt::{Env, Files};
+use std::rt::Files;
 
-// The largest segment.
-fn room() -> [u8; 1048576]
-    ensures { 1048576 ≡ length result }
-{
-    [0; 1048576]
-}
+const USAGE: &str = "\
+okw list FILE ID [FILE ID ...]         every entry and chunk of each segment
+okw show FILE ID ENTRY                 the bytes of the entries with the id ENTRY
+okw new FILE ID SIZE                   a fresh segment of SIZE bytes
+okw append FILE ID ENTRY_ID TEXT ...   one entry more, with a chunk for each TEXT
+";
 
-fn run(
-    rt: &(impl Env + Files<File = File>),
+fn run<'a>(
+    rt: &(impl Files<File = File> + AllocGlobal),
     out: &mut impl Write,
-    command: Command,
-    image: &mut [u8],
-) -> io::Result<Outcome> {
-    match command {
-        Command::List => list::list(rt, out, image),
-        Command::Show => list::show(rt, out, image),
-        Command::New => Ok(append::new(rt, image)),
-        Command::Append => append::append(rt, out, image),
-        Command::Unknown => arguments::usage(out),
+    words: &'a [Word],
+) -> Result<(), Ended<'a>> {
+    match Command::asked(words) {
+        Ok(Command::List { segments }) => list::list(rt, out, segments),
+        Ok(Command::Show { file, id, entry }) => list::show(rt, out, file, id, entry),
+        Ok(Command::New { file, id, size }) => Ok(append::new(rt, file, id, size)?),
+        Ok(
+            Command::Append {
+                file,
+                id,
+                entry,
+                texts,
+            },
+        ) => Ok(append::append(rt, file, id, entry, texts)?),
+        Err(refused) => {
+            write!(out, "{USAGE}")?;
+            Err(Ended::from(refused))
+        }
     }
 }
 
 fn main(rt: HostRuntime) -> io::Result<()> {
-    let mut image = room();
     let mut out = io::writer(&rt);
-    let ended = run(&rt, &mut out, arguments::asked(&rt), &mut image)?;
-    outcome::put_last(&rt, &mut out, ended)
+    let words = arguments::words(&rt)?;
+    match run(&rt, &mut out, words.as_slice()) {
+        Ok(()) => writeln!(out, "ok"),
+        Err(Ended::Refused(refused)) => refused.put(&mut out),
+        Err(Ended::Output(error)) => Err(error),
+    }
 }

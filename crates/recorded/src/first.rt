@@ -1,71 +1,48 @@
-// The first entry and the first chunk of an image, read through the reader that holds its image.
-use crate::answers::Reply;
-use crate::calls::FirstCall;
-use crate::{answers, reader};
-use held_reader::FirstWhole;
-use segment_reader::{EntryAnswer, OpenAnswer};
+//! The first entry and the first chunk of an image, read through the reader that holds its image.
+use crate::{reader, words};
+use segment_reader::held;
+use segment_reader::held::FirstWhole;
 use std::io;
 use std::io::Write;
 
-pub(crate) fn line<W: Write>(
-    out: &mut W,
-    call: FirstCall,
-    image: &[u8],
-    line: &[u8],
-) -> io::Result<()> {
-    match call {
-        FirstCall::First => put_first(
-            out,
-            held_reader::first_whole(image, answers::number(line, 1)),
-        )?,
-        FirstCall::Bytes => put_bytes(out, image, line)?,
+/// Answers the line, if it asks for one of them: the image that it names is put into the image that the writer and the reader have.
+pub(crate) fn line(out: &mut impl Write, image: &mut [u8], line: &[u8]) -> io::Result<bool> {
+    let whole = match text::word(line, 0) {
+        b"first" => true,
+        b"bytes" => false,
+        _ => return Ok(false),
+    };
+    let size = words::bytes(line, 2, image);
+    let image = text::first(image, size);
+    let id = words::number(line, 1);
+    if whole {
+        put_first(out, held::first_whole(image, id))?;
+    } else {
+        put_bytes(out, image, id, words::number(line, 3))?;
     }
-    answers::end_line(out)
+    Ok(true)
 }
 
-// The opening's number, and where it is 0 the entry's answer.
-fn put_first<W: Write>(out: &mut W, first: FirstWhole) -> io::Result<()> {
-    let opening = first.opening;
-    match opening {
-        OpenAnswer::Opened => {
-            write!(out, "0 ")?;
-            put_entry(out, first)
-        }
-        OpenAnswer::Refused(no) => write!(out, "{no}"),
+/// The opening's number; where it is 0 the entry's answer, and where there is an entry its answer whole and the place behind it.
+fn put_first(out: &mut impl Write, first: FirstWhole) -> io::Result<()> {
+    if let Err(refusal) = first.opening {
+        return write!(out, "{}", refusal.number());
     }
-}
-
-// Number and words of the entry, and where there is one those of the entry whole, then the place behind it.
-fn put_entry<W: Write>(out: &mut W, first: FirstWhole) -> io::Result<()> {
-    let entry = first.entry;
-    answers::put_reply(out, reader::entry_reply(entry))?;
-    if let EntryAnswer::Entry { id: _ } = entry {
-        put_whole(out, first)?;
+    write!(out, "0 ")?;
+    words::put(out, first.entry.map(reader::entry_in_words))?;
+    if let Ok(Some(_)) = first.entry {
+        write!(out, " ")?;
+        words::put(out, first.whole.map(reader::whole_in_words))?;
+        write!(out, " {} {}", first.state.place, first.state.valid_until)?;
     }
     Ok(())
 }
 
-fn put_whole<W: Write>(out: &mut W, first: FirstWhole) -> io::Result<()> {
-    let whole = first.whole;
-    let behind = whole.reader;
-    let answer = whole.answer;
-    write!(out, " ")?;
-    answers::put_reply(out, reader::whole_reply(answer))?;
-    answers::put(out, behind.place)?;
-    answers::put(out, behind.valid_until)
-}
-
-// The bytes asked for, the number of the CRC's check and its word.
-fn put_bytes<W: Write>(out: &mut W, image: &[u8], line: &[u8]) -> io::Result<()> {
-    let id = answers::number(line, 1);
-    answers::put_hex(
-        out,
-        held_reader::first_bytes(image, id, answers::number(line, 3)),
-    )?;
-    put_check(out, reader::checked(held_reader::first_crc(image, id)))
-}
-
-fn put_check<W: Write>(out: &mut W, reply: Reply) -> io::Result<()> {
-    answers::put(out, reply.no as u64)?;
-    answers::put(out, reply.a)
+/// The bytes asked for, the number of the CRC's check and its word.
+fn put_bytes(out: &mut impl Write, image: &[u8], id: u64, asked: u64) -> io::Result<()> {
+    words::put_bytes(out, held::first_bytes(image, id, asked))?;
+    match held::first_crc(image, id) {
+        Ok(is_right) => write!(out, " 0 {}", u64::from(is_right)),
+        Err(refusal) => write!(out, " {} 0", refusal.number()),
+    }
 }

@@ -1,66 +1,48 @@
-// Positions and sums, replayed.
-use crate::answers;
-use crate::calls::SmallCall;
-use entry::{Deserialized, LogPosition, Serialized};
+//! Positions and sums, replayed.
+use crate::words;
+use entry::LogPosition;
 use std::io;
 use std::io::Write;
 
-pub(crate) fn line<W: Write>(out: &mut W, call: SmallCall, line: &[u8]) -> io::Result<()> {
-    match call {
-        SmallCall::Put => put(out, line)?,
-        SmallCall::Get => get(out, line)?,
-        SmallCall::Sum => sum(out, line)?,
-        SmallCall::Unknown => write!(out, "no such call")?,
+/// Answers the line, if it asks for a position as bytes, for bytes as a position, or for a sum.
+pub(crate) fn line(out: &mut impl Write, line: &[u8]) -> io::Result<bool> {
+    match text::word(line, 0) {
+        b"put" => put(out, line)?,
+        b"get" => get(out, line)?,
+        b"sum" => sum(out, line)?,
+        _ => return Ok(false),
     }
-    answers::end_line(out)
+    Ok(true)
 }
 
-fn stored(answer: Serialized) -> u64 {
-    match answer {
-        Serialized::Stored => 0,
-        Serialized::Refused(no) => no as u64,
-    }
-}
-
-// The 16 bytes of a position.
-fn put<W: Write>(out: &mut W, line: &[u8]) -> io::Result<()> {
+/// The 16 bytes of a position.
+fn put(out: &mut impl Write, line: &[u8]) -> io::Result<()> {
     let position = LogPosition {
-        file_id: answers::number(line, 1),
-        offset: answers::number(line, 2),
+        file_id: words::number(line, 1),
+        offset: words::number(line, 2),
     };
-    let mut bytes = [0u8; 16];
-    let no = stored(position.serialize_to(&mut bytes));
-    write!(out, "{no}")?;
-    answers::put_bytes(out, &bytes)
+    let mut bytes = [0; 16];
+    match position.serialize_to(&mut bytes) {
+        Ok(()) => write!(out, "0 ")?,
+        Err(refusal) => write!(out, "{} ", refusal.number())?,
+    }
+    words::put_bytes(out, &bytes)
 }
 
-fn put_position<W: Write>(out: &mut W, no: u8, position: LogPosition) -> io::Result<()> {
-    write!(out, "{no}")?;
-    answers::put(out, position.file_id)?;
-    answers::put(out, position.offset)
-}
-
-// The position that bytes stand for.
-fn get<W: Write>(out: &mut W, line: &[u8]) -> io::Result<()> {
-    let mut bytes = [0u8; 32];
-    let n = text::unhex(text::word(line, 1), &mut bytes);
-    match LogPosition::deserialize_from(text::first(&bytes, n)) {
-        Deserialized::Position(position) => put_position(out, 0, position),
-        Deserialized::Refused(no) => put_position(
-            out,
-            no,
-            LogPosition {
-                file_id: 0,
-                offset: 0,
-            },
-        ),
+/// The position that bytes stand for.
+fn get(out: &mut impl Write, line: &[u8]) -> io::Result<()> {
+    let mut room = [0; 32];
+    let count = words::bytes(line, 1, &mut room);
+    match LogPosition::deserialize_from(text::first(&room, count)) {
+        Ok(position) => write!(out, "0 {} {}", position.file_id, position.offset),
+        Err(refusal) => write!(out, "{} 0 0", refusal.number()),
     }
 }
 
-// A finished sum, continued over bytes.
-fn sum<W: Write>(out: &mut W, line: &[u8]) -> io::Result<()> {
-    let mut bytes = [0u8; 128];
-    let n = text::unhex(text::word(line, 2), &mut bytes);
-    let sum = crc32c::append(answers::number32(line, 1), text::first(&bytes, n));
+/// A finished sum, continued over bytes.
+fn sum(out: &mut impl Write, line: &[u8]) -> io::Result<()> {
+    let mut room = [0; 128];
+    let count = words::bytes(line, 2, &mut room);
+    let sum = crc32c::append(words::number32(line, 1), text::first(&room, count));
     write!(out, "{sum}")
 }

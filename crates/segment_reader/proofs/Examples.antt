@@ -5,10 +5,10 @@ use Prim.Native.Nat.{ℕ}
 use lib.ListN.{replicate}
 use Rattle.lists.specs.Answers.{refused}
 use Rattle.lists.specs.Walk.{walk, around}
-use Rattle.little_endian.specs.LittleEndian.{le, from_le, number}
+use Rattle.lists.specs.Numbers.{le, from_le, number}
 use Rattle.crc32c.specs.Crc.{update, crc_append}
 use Rattle.entry.specs.Format.{header, covered, chunk_sum, chunk, entry, segment}
-use Rattle.segment_reader.specs.Reading.{standing, skip_turn, skip, lead, opened}
+use Rattle.reading.specs.Reading.{standing, skip_turn, skip, lead, opened}
 use Rattle.segment_reader.specs.State.{stands_at, in_place, fit, leaving, start_of, holding, open_of}
 use Rattle.segment_reader.specs.Calls.{Reply, told, answer_of, opened_with, new, entry_met, entry_past, entry_from, read_entry, chunk_met, chunk_from, read_chunk, skip_in, skip_remaining, Call, next_entry, next_chunk, skip_rest, read_by}
 use Rattle.segment_reader.specs.declared.SegmentReader.{SegmentReader}

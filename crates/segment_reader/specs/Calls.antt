@@ -5,33 +5,34 @@ use Rattle.std.specs.Prelude.{Bool, true, false, cond, List, [], ◌∷◌, ℕ,
 use Rattle.lists.specs.Answers.{Answer, accepted, refused}
 use Rattle.lists.specs.Stream.{part}
 use Rattle.entry.specs.Format.{largest_image}
-use Rattle.segment_reader.specs.Reading.{Mark, chunk, cut, close, other, standing, Part, in_header, in_data, in_sum, Cut, header_cut, body_cut, fits, matches, Skipped, at, broken, skip, Whole, complete, aborted, cut_off, wrong_sum, whole, Next, seek, pass, left, Lead, entry, none, lead, Opened, opens, refuses, opened}
-use Rattle.segment_reader.specs.State.{fit, start_of, open_of}
+use Rattle.reading.specs.Reading.{Mark, chunk, cut, close, other, standing, header_cut, body_cut, fits, matches, Skipped, at, broken, skip, Whole, complete, aborted, cut_off, wrong_sum, whole, left, Lead, entry, none, lead, Opened, opens, refuses, opened}
+use Rattle.segment_reader.specs.State.{fit, start_of, open_of, Start, Unfit, Over, Idle, Current, Open, Refused, Chunk}
 use Rattle.segment_reader.specs.declared.Moment.{Moment}
 use Rattle.segment_reader.specs.declared.Moment.TheVariants.{Between, InEntry, InChunk, Ended}
 use Rattle.segment_reader.specs.declared.SegmentReader.{SegmentReader}
-use Rattle.segment_reader.specs.declared.state.Start.{Start}
-use Rattle.segment_reader.specs.declared.state.Start.TheVariants.{Unfit, Over, Idle, Current}
-use Rattle.segment_reader.specs.declared.state.Open.{Open}
-use Rattle.segment_reader.specs.declared.state.Open.TheVariants.{Refused, Chunk}
+use Rattle.entry.specs.declared.CutPart.{CutPart}
+use Rattle.entry.specs.declared.CutPart.TheVariants.{Header, Data, Crc}
+use Rattle.entry.specs.declared.ChunkCut.{ChunkCut}
+use Rattle.reading.specs.declared.walks.Next.{Next}
+use Rattle.reading.specs.declared.walks.Next.TheVariants.{Seek, Pass}
 
 -- ---- answers: the values reported; a chunk that is cut; another refusal
 
 pub data Reply : Type 0 where
   told : (values : List ℕ) → Reply
-  cut_short : Cut → Reply
+  cut_short : ChunkCut → Reply
   refusal : (number' : ℕ) → Reply
 
 -- document 01's number of a cut
-unfoldable pub cut_number : Part → ℕ
-cut_number in_header = 9
-cut_number in_data = 9
-cut_number in_sum = 9
+unfoldable pub cut_number : CutPart → ℕ
+cut_number Header = 9
+cut_number Data = 9
+cut_number Crc = 9
 
 -- document 01's answer
 unfoldable pub answer_of : Reply → Answer
 answer_of (told values) = accepted values
-answer_of (cut_short c) = refused (cut_number c.which)
+answer_of (cut_short c) = refused (cut_number c.part)
 answer_of (refusal n) = refused n
 
 pub record Step : Type 0 where
@@ -60,8 +61,8 @@ moved r p m = placed r p r.valid_until m
 
 -- after the entry id, or a part of it: `left` of `Reading` says whether it is still current
 unfoldable pub resting : SegmentReader → (id : ℕ) → Next → SegmentReader
-resting r id (pass q) = moved r q (InEntry id)
-resting r id (seek q) = moved r q Between
+resting r id (Pass q) = moved r q (InEntry id)
+resting r id (Seek q) = moved r q Between
 
 -- ---- opening: refused with 12, 1, 2, 3, 1; a refused opening hands back a state of zeros, ended
 

@@ -4,14 +4,13 @@ use Rattle.std.proofs.Math.Path.{refl}
 use Rattle.std.proofs.Common.{sym, ap, arith, length-drop, length-take-le}
 use Rattle.lists.specs.Answers.{number_of}
 use Rattle.lists.specs.Stream.{part}
-use Rattle.segment_reader.specs.Reading.{Mark, chunk, cut, close, other, Part, in_header, in_data, in_sum, Cut, Skipped, at, broken, Whole, complete, aborted, cut_off, wrong_sum, Lead, entry, none}
-use Rattle.segment_reader.specs.State.{start_of, open_of}
+use Rattle.reading.specs.Reading.{Mark, chunk, cut, close, other, Skipped, at, broken, Whole, complete, aborted, cut_off, wrong_sum, Lead, entry, none}
+use Rattle.segment_reader.specs.State.{start_of, open_of, Start, Unfit, Over, Idle, Current, Open, Refused, Chunk}
 use Rattle.segment_reader.specs.Calls.{Reply, told, cut_short, refusal, cut_number, answer_of, Step, step, entry_met, entry_past, entry_from, read_entry, chunk_met, chunk_from, read_chunk, handed, read_in, read, bytes_in, read_bytes, check_crc, skip_in, skip_remaining, whole_reply, whole_at, whole_from, read_all_chunks, Call, next_entry, next_chunk, crc_check, skip_rest, whole_entry, data_read, read_by}
 use Rattle.segment_reader.specs.declared.SegmentReader.{SegmentReader}
-use Rattle.segment_reader.specs.declared.state.Start.{Start}
-use Rattle.segment_reader.specs.declared.state.Start.TheVariants.{Unfit, Over, Idle, Current}
-use Rattle.segment_reader.specs.declared.state.Open.{Open}
-use Rattle.segment_reader.specs.declared.state.Open.TheVariants.{Refused, Chunk}
+use Rattle.entry.specs.declared.CutPart.{CutPart}
+use Rattle.entry.specs.declared.CutPart.TheVariants.{Header, Data, Crc}
+use Rattle.entry.specs.declared.ChunkCut.{ChunkCut}
 
 -- ---- 12 and 6 keep the whole state
 
@@ -36,14 +35,14 @@ module _ (r : SegmentReader) where
   unfolding answer_of
   is-ten q = (λ e. absurd (omega arith), λ e. absurd (omega arith))
 
-  cuts : (q : SegmentReader) (c : Cut) → Kept r (step q (cut_short c))
+  cuts : (q : SegmentReader) (c : ChunkCut) → Kept r (step q (cut_short c))
   unfolding answer_of cut_number
-  cuts q c = go c.which refl
+  cuts q c = go c.part refl
     where
-      go : (p : Part) → c.which ≡ p → Kept r (step q (cut_short c))
-      go in_header e = rw e (λ e. absurd (omega arith), λ e. absurd (omega arith))
-      go in_data e = rw e (λ e. absurd (omega arith), λ e. absurd (omega arith))
-      go in_sum e = rw e (λ e. absurd (omega arith), λ e. absurd (omega arith))
+      go : (p : CutPart) → c.part ≡ p → Kept r (step q (cut_short c))
+      go Header e = rw e (λ e. absurd (omega arith), λ e. absurd (omega arith))
+      go Data e = rw e (λ e. absurd (omega arith), λ e. absurd (omega arith))
+      go Crc e = rw e (λ e. absurd (omega arith), λ e. absurd (omega arith))
 
   module _ (image : List ℕ) where
     entry-keeps : (p : ℕ) (l : Lead) → Kept r (entry_met r p l)

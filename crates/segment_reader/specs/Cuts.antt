@@ -1,10 +1,8 @@
 -- A chunk read in pieces: reads of any asked sizes, 0 too, with CRC checks between. The law that the cutting does not show is in `CutsLaws`.
 use Rattle.std.specs.Prelude.{List, [], ◌∷◌, ◌++◌, map, ◌≡◌, ℕ, min, length}
-use Rattle.segment_reader.specs.State.{open_of}
+use Rattle.segment_reader.specs.State.{open_of, Open, Refused, Chunk}
 use Rattle.segment_reader.specs.Calls.{present, read_bytes, Call, data_read, crc_check, read_by, after}
 use Rattle.segment_reader.specs.declared.SegmentReader.{SegmentReader}
-use Rattle.segment_reader.specs.declared.state.Open.{Open}
-use Rattle.segment_reader.specs.declared.state.Open.TheVariants.{Refused, Chunk}
 
 pub data Piece : Type 0 where
   ask : (asked : ℕ) → Piece

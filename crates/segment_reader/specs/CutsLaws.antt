@@ -9,14 +9,12 @@ use Rattle.std.proofs.Math.Nat.{add_assoc, sub-zero}
 use borrow.Author.Tests.{le-leb, eq-eqb}
 use Rattle.lists.specs.Stream.{part}
 use Rattle.entry.specs.Format.{largest_image}
-use Rattle.segment_reader.specs.State.{stands_at, in_place, fit, holding, open_of}
+use Rattle.segment_reader.specs.State.{stands_at, in_place, fit, holding, open_of, Open, Refused, Chunk}
 use Rattle.segment_reader.specs.StateLaws.{fit-says, fit-owes, open-says}
 use Rattle.segment_reader.specs.Calls.{moved, handed, read_in, read, bytes_in, read_bytes, check_crc, skip_remaining, read_by, after}
 use Rattle.segment_reader.specs.Cuts.{Piece, ask, check, call_of, read_to, bytes_of, gathered, to_come, ReadOut}
 use Rattle.segment_reader.specs.declared.Moment.TheVariants.{InChunk}
 use Rattle.segment_reader.specs.declared.SegmentReader.{SegmentReader}
-use Rattle.segment_reader.specs.declared.state.Open.{Open}
-use Rattle.segment_reader.specs.declared.state.Open.TheVariants.{Refused, Chunk}
 
 more : (o size p j k : ℕ) → j ≤ min o (size - p) → k ≤ min (o - j) (size - (p + j)) → j + k ≤ min o (size - p)
 more o size p j k h g = omega arith

@@ -4,17 +4,14 @@ use Rattle.std.proofs.Math.Bool.{true, false, cond}
 use mathlib.Core.List.{List, [], ◌∷◌}
 use Rattle.std.proofs.Math.Path.{◌≡◌, refl, ap}
 use Rattle.std.proofs.Common.{arith}
-use Rattle.little_endian.specs.LittleEndianLaws.{Bytes}
-use Rattle.segment_reader.specs.Reading.{Skipped, at, broken, Lead, entry, none}
-use Rattle.segment_reader.specs.State.{fit, leaving, start_of, holding, open_of}
+use Rattle.lists.specs.NumbersLaws.{Bytes}
+use Rattle.reading.specs.Reading.{Skipped, at, broken, Lead, entry, none}
+use Rattle.segment_reader.specs.State.{fit, leaving, start_of, holding, open_of, Start, Unfit, Over, Idle, Current, Refused}
 use Rattle.segment_reader.specs.Calls.{Reply, told, refusal, step, new, entry_met, entry_past, entry_from, read_entry, chunk_from, read_chunk, read_in, read, skip_in, skip_remaining, whole_from, read_all_chunks, Call, next_entry, next_chunk, crc_check, skip_rest, whole_entry, data_read, read_by, after}
 use Rattle.segment_reader.specs.LedLaws.{Led, led-fits, Kind, call-led, led_by, opened-leads}
 use Rattle.segment_reader.specs.declared.Moment.{Moment}
 use Rattle.segment_reader.specs.declared.Moment.TheVariants.{Between, InEntry, InChunk, Ended}
 use Rattle.segment_reader.specs.declared.SegmentReader.{SegmentReader}
-use Rattle.segment_reader.specs.declared.state.Start.{Start}
-use Rattle.segment_reader.specs.declared.state.Start.TheVariants.{Unfit, Over, Idle, Current}
-use Rattle.segment_reader.specs.declared.state.Open.TheVariants.{Refused}
 
 -- the answer of a call for an entry where there is none
 abbrev pub ended : Reply

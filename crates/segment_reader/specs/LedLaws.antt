@@ -7,22 +7,22 @@ use native.Mathlib.Omega.{arith}
 use Rattle.std.proofs.Math.ListN.{get_or-eq_default}
 use Rattle.std.proofs.Common.{le-leb, eq-eqb, leb-true, leb-false}
 use Rattle.lists.specs.Walk.{Keeps, around-ind}
-use Rattle.little_endian.specs.LittleEndian.{number}
-use Rattle.little_endian.specs.LittleEndianLaws.{Bytes}
-use Rattle.little_endian.proofs.NumbersRead.{number-four}
+use Rattle.lists.specs.Numbers.{number}
+use Rattle.lists.specs.NumbersLaws.{Bytes}
+use Rattle.lists.proofs.NumbersRead.{number-four}
 use Rattle.entry.specs.Format.{largest_image}
-use Rattle.segment_reader.specs.Reading.{Mark, chunk, cut, close, other, standing, Part, in_header, in_data, in_sum, header_cut, fits, matches, Skipped, at, broken, skip_turn, skip, Whole, complete, aborted, cut_off, wrong_sum, also, whole_turn, whole, Next, seek, pass, after_cut, left, Lead, entry, none, lead, Opened, opens, refuses, opened}
-use Rattle.segment_reader.specs.ReadingLaws.{says, close-inside, lead-says, skip-forward, chunk_turn, whole-forward}
-use Rattle.segment_reader.specs.State.{stands_at, in_place, fit, leaving, start_of, open_of}
+use Rattle.reading.specs.Reading.{Mark, chunk, cut, close, other, standing, header_cut, fits, matches, Skipped, at, broken, skip_turn, skip, Whole, complete, aborted, cut_off, wrong_sum, also, whole_turn, whole, after_cut, left, Lead, entry, none, lead, Opened, opens, refuses, opened}
+use Rattle.reading.specs.ReadingLaws.{says, close-inside, lead-says, skip-forward, chunk_turn, whole-forward}
+use Rattle.segment_reader.specs.State.{stands_at, in_place, fit, leaving, start_of, open_of, Start, Unfit, Over, Idle, Current, Open, Refused, Chunk}
 use Rattle.segment_reader.specs.StateLaws.{open-says}
 use Rattle.segment_reader.specs.Calls.{told, refusal, step, zeros, placed, resting, opened_with, new, entry_met, entry_past, entry_from, read_entry, chunk_met, chunk_from, read_chunk, handed, read_in, read, skip_in, skip_remaining, whole_from, read_all_chunks, Call, next_entry, next_chunk, crc_check, skip_rest, whole_entry, data_read, read_by, after}
 use Rattle.segment_reader.specs.declared.Moment.{Moment}
 use Rattle.segment_reader.specs.declared.Moment.TheVariants.{Between, InEntry, InChunk, Ended}
 use Rattle.segment_reader.specs.declared.SegmentReader.{SegmentReader}
-use Rattle.segment_reader.specs.declared.state.Start.{Start}
-use Rattle.segment_reader.specs.declared.state.Start.TheVariants.{Unfit, Over, Idle, Current}
-use Rattle.segment_reader.specs.declared.state.Open.{Open}
-use Rattle.segment_reader.specs.declared.state.Open.TheVariants.{Refused, Chunk}
+use Rattle.entry.specs.declared.CutPart.{CutPart}
+use Rattle.entry.specs.declared.CutPart.TheVariants.{Header, Data, Crc}
+use Rattle.reading.specs.declared.walks.Next.{Next}
+use Rattle.reading.specs.declared.walks.Next.TheVariants.{Seek, Pass}
 
 -- the farthest place: a chunk's header ends with the image, and its length is 2^32 - 1
 abbrev pub farthest : ℕ
@@ -82,20 +82,20 @@ WholeNear (cut_off c q) = q ≤ farthest
 WholeNear (wrong_sum q) = q ≤ farthest
 
 abbrev NextNear : Next → Type 0
-NextNear (seek q) = q ≤ farthest
-NextNear (pass q) = q ≤ farthest
+NextNear (Seek q) = q ≤ farthest
+NextNear (Pass q) = q ≤ farthest
 
-cut-near : (x : Part) (q : ℕ) → q ≤ farthest → NextNear (after_cut x q)
+cut-near : (x : CutPart) (q : ℕ) → q ≤ farthest → NextNear (after_cut x q)
 unfolding after_cut
-cut-near in_header q h = h
-cut-near in_data q h = h
-cut-near in_sum q h = h
+cut-near Header q h = h
+cut-near Data q h = h
+cut-near Crc q h = h
 
 left_near : (w : Whole) → WholeNear w → NextNear (left w)
 unfolding left
 left_near (complete k q) h = h
 left_near (aborted q) h = h
-left_near (cut_off c q) h = cut-near c.which q h
+left_near (cut_off c q) h = cut-near c.part q h
 left_near (wrong_sum q) h = h
 
 also-near : (w : Whole) → WholeNear w → WholeNear (also w)
@@ -147,8 +147,8 @@ module _ (image : List ℕ) (bytes : Bytes image) (r : SegmentReader) (l : Led i
 
   rest-led : (id : ℕ) (x : Next) → NextNear x → Led image (resting r id x)
   unfolding resting
-  rest-led id (seek q) h = put-led q _ Between h tt
-  rest-led id (pass q) h = put-led q _ (InEntry id) h tt
+  rest-led id (Seek q) h = put-led q _ Between h tt
+  rest-led id (Pass q) h = put-led q _ (InEntry id) h tt
 
   met-led : (p : ℕ) (x : Lead) → lead r.file_id image p ≡ x → p ≤ farthest → Led image (entry_met r p x).reader
   unfolding entry_met

@@ -1,18 +1,9 @@
--- In order: what stands in an image, and the round trip; a reader's state and its calls; a chunk read in pieces; a whole segment read by the code.
-pub mod Reading
-pub mod ReadingLaws
-pub mod NumberLaws
-pub mod WholeReading
-pub mod Yielded
-pub mod WholeReadingLaws
-pub mod RoundTripLaws
-pub mod RoundTrip
-pub mod Soundness
+-- In order: a reader's state and its calls; a chunk read in pieces; a whole segment read by the code; the thin reader.
 pub mod State
 pub mod StateLaws
-pub mod Shapes
 pub mod Calls
 pub mod Promises
+pub mod Step
 pub mod PromisesLaws
 pub mod CallsLaws
 pub mod LedLaws
@@ -20,6 +11,11 @@ pub mod EndedLaws
 pub mod Cuts
 pub mod CutsLaws
 pub mod Driver
+pub mod WordsLaws
 pub mod Turns
 pub mod DriverLaws
 pub mod ReadBack
+pub mod Held
+pub mod HeldLaws
+pub mod Entries
+pub mod Laws

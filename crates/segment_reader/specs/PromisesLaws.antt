@@ -1,197 +1,207 @@
--- Each promise allows one answer: the code's enums and their numbers, the cuts' details included, and the state. The idea: each `…As` tells its cases apart.
-use Rattle.std.specs.Prelude.{List, ◌≡◌, refl, ℕ}
+-- Each promise allows one answer: the code's answers and their numbers, the cuts' details included, and the state. The idea: `refused_by` and each
+-- `…_values` tell their cases apart.
+use Rattle.std.specs.Prelude.{List, ◌≡◌, refl, ℕ, Bool, true, false, Option, Some, None, Result, Ok, Err, if◌then◌else◌, ◌==◌}
 use Rattle.std.proofs.Common.{sym, ap, ◌∙◌}
-use Rattle.segment_reader.specs.Reading.{Cut}
-use Rattle.segment_reader.specs.Shapes.{part_as, cut_as}
-use Rattle.segment_reader.specs.Calls.{Step}
-use Rattle.segment_reader.specs.Promises.{open_as, entry_as, chunk_as, read_as, crc_as, skip_as, whole_reply_as, NewAllows, ReadEntryAllows, ReadChunkAllows, ReadAllows, AfterReadAllows, CheckCrcAllows, SkipAllows, ReadAllChunksAllows, VersionInfoAllows}
-use Rattle.segment_reader.specs.declared.CutPart.{CutPart}
-use Rattle.segment_reader.specs.declared.CutPart.TheVariants.{Header, Data, Crc}
-use Rattle.segment_reader.specs.declared.ChunkCut.{ChunkCut}
+use Rattle.entry.specs.declared.Refusal.{Refusal}
+use Rattle.entry.specs.declared.Refusal.TheVariants.{Short, Magic, Version, InfoTooLong, NoRoom, NotNow, LowId, BytesOwed, Cut, WrongSum, OutsideImage, OutOfRange}
+use Rattle.entry.specs.declared.CutPart.{CutPart}
+use Rattle.entry.specs.declared.CutPart.TheVariants.{Header, Data, Crc}
+use Rattle.entry.specs.Refusal as numbers
+use Rattle.lists.specs.Answers.{refused}
+use Rattle.segment_reader.specs.Calls.{Reply, told, cut_short, refusal, cut_number, answer_of, Step}
+use Rattle.segment_reader.specs.Promises.{refused_by, reply_of, no_values, entry_values, chunk_values, part_values, read_values, numbers_in, crc_values, whole_values, bytes_of, NewAllows, ReadEntryAllows, ReadChunkAllows, ReadAllows, AfterReadAllows, PartAllows, CheckCrcAllows, SkipAllows, ReadAllChunksAllows, VersionInfoAllows}
 use Rattle.segment_reader.specs.declared.SegmentReader.{SegmentReader}
-use Rattle.segment_reader.specs.declared.OpenAnswer.{OpenAnswer}
-use Rattle.segment_reader.specs.declared.OpenAnswer.TheVariants.{Opened, Refused as NotOpened}
-use Rattle.segment_reader.specs.declared.Opening.{Opening}
-use Rattle.segment_reader.specs.declared.EntryAnswer.{EntryAnswer}
-use Rattle.segment_reader.specs.declared.EntryAnswer.TheVariants.{Entry, Ended, Cut as EntryCut, Refused as NoEntry}
-use Rattle.segment_reader.specs.declared.EntryStep.{EntryStep}
 use Rattle.segment_reader.specs.declared.ReadChunkResult.{ReadChunkResult}
-use Rattle.segment_reader.specs.declared.ReadChunkResult.TheVariants.{Chunk, EndOfEntry, AbortedEntry, Cut as HeaderCut, Refused as NoChunk}
-use Rattle.segment_reader.specs.declared.ChunkStep.{ChunkStep}
-use Rattle.segment_reader.specs.declared.ReadAnswer.{ReadAnswer}
-use Rattle.segment_reader.specs.declared.ReadAnswer.TheVariants.{Read, Refused as NotRead}
-use Rattle.segment_reader.specs.declared.ReadStep.{ReadStep}
-use Rattle.segment_reader.specs.declared.CrcAnswer.{CrcAnswer}
-use Rattle.segment_reader.specs.declared.CrcAnswer.TheVariants.{Right, Wrong, Cut as CrcCut, Refused as NotChecked}
-use Rattle.segment_reader.specs.declared.SkipAnswer.{SkipAnswer}
-use Rattle.segment_reader.specs.declared.SkipAnswer.TheVariants.{Skipped, Refused as NotSkipped}
-use Rattle.segment_reader.specs.declared.SkipStep.{SkipStep}
-use Rattle.segment_reader.specs.declared.WholeAnswer.{WholeAnswer}
-use Rattle.segment_reader.specs.declared.WholeAnswer.TheVariants.{Whole, Aborted, Cut as WholeCut, Refused as NotWhole}
-use Rattle.segment_reader.specs.declared.WholeStep.{WholeStep}
+use Rattle.segment_reader.specs.declared.ReadChunkResult.TheVariants.{Chunk, EndOfEntry, AbortedEntry}
+use Rattle.segment_reader.specs.declared.Part.{Part}
+use Rattle.segment_reader.specs.declared.WholeEntry.{WholeEntry}
+use Rattle.segment_reader.specs.declared.WholeEntry.TheVariants.{Whole, Aborted}
 
--- ---- no two cases are alike
+-- ---- no two refusals are alike
 
-part-one : (a b : CutPart) → part_as a ≡ part_as b → a ≡ b
-part-one Header Header e = refl
-part-one Header Data e = cc
-part-one Header Crc e = cc
-part-one Data Header e = cc
-part-one Data Data e = refl
-part-one Data Crc e = cc
-part-one Crc Header e = cc
-part-one Crc Data e = cc
-part-one Crc Crc e = refl
+abbrev by_number : ℕ → Refusal
+by_number n =
+    if n == 1 then Short else if n == 2 then Magic else if n == 3 then Version else if n == 4 then InfoTooLong else if n == 5 then NoRoom
+    else if n == 6 then NotNow else if n == 7 then LowId else if n == 8 then BytesOwed else if n == 10 then WrongSum else if n == 11 then OutsideImage
+    else OutOfRange
 
-cut-one : (a b : ChunkCut) → cut_as a ≡ cut_as b → a ≡ b
-cut-one a b e =
-    let p : a.part ≡ b.part = part-one a.part b.part (ap (λ (c : Cut). c.which) e) in
-    let m : a.mark ≡ b.mark = ap (λ (c : Cut). c.mark) e in
-    let k : a.lacks ≡ b.lacks = ap (λ (c : Cut). c.lacks) e in
-    λ i. record { part = p i; mark = m i; lacks = k i }
+abbrev decoded : Reply → Refusal
+decoded (told values) = OutOfRange
+decoded (cut_short c) = Cut c
+decoded (refusal n) = by_number n
 
-open-one : (a b : OpenAnswer) → open_as a ≡ open_as b → a ≡ b
-open-one Opened Opened e = refl
-open-one Opened (NotOpened p) e = cc
-open-one (NotOpened m) Opened e = cc
-open-one (NotOpened m) (NotOpened p) e = cc
+back : (a : Refusal) → decoded (refused_by a) ≡ a
+back Short = refl
+back Magic = refl
+back Version = refl
+back InfoTooLong = refl
+back NoRoom = refl
+back NotNow = refl
+back LowId = refl
+back BytesOwed = refl
+back (Cut c) = refl
+back WrongSum = refl
+back OutsideImage = refl
+back OutOfRange = refl
 
-entry-one : (a b : EntryAnswer) → entry_as a ≡ entry_as b → a ≡ b
-entry-one (Entry m) (Entry p) e = cc
-entry-one (Entry m) Ended e = cc
-entry-one (Entry m) (EntryCut p) e = cc
-entry-one (Entry m) (NoEntry p) e = cc
-entry-one Ended (Entry p) e = cc
-entry-one Ended Ended e = refl
-entry-one Ended (EntryCut p) e = cc
-entry-one Ended (NoEntry p) e = cc
-entry-one (EntryCut m) (Entry p) e = cc
-entry-one (EntryCut m) Ended e = cc
-entry-one (EntryCut c) (EntryCut d) e = ap EntryCut (cut-one c d (cc))
-entry-one (EntryCut m) (NoEntry p) e = cc
-entry-one (NoEntry m) (Entry p) e = cc
-entry-one (NoEntry m) Ended e = cc
-entry-one (NoEntry m) (EntryCut p) e = cc
-entry-one (NoEntry m) (NoEntry p) e = cc
+pub refused-one : (a b : Refusal) → refused_by a ≡ refused_by b → a ≡ b
+refused-one a b e = sym (back a) ∙ ap decoded e ∙ back b
 
-chunk-one : (a b : ReadChunkResult) → chunk_as a ≡ chunk_as b → a ≡ b
+-- ---- nor is one an answer
+
+abbrev is_told : Reply → Bool
+is_told (told values) = true
+is_told (cut_short c) = false
+is_told (refusal n) = false
+
+not-told : (a : Refusal) → is_told (refused_by a) ≡ false
+not-told Short = refl
+not-told Magic = refl
+not-told Version = refl
+not-told InfoTooLong = refl
+not-told NoRoom = refl
+not-told NotNow = refl
+not-told LowId = refl
+not-told BytesOwed = refl
+not-told (Cut c) = refl
+not-told WrongSum = refl
+not-told OutsideImage = refl
+not-told OutOfRange = refl
+
+pub never-told : (values : List ℕ) (a : Refusal) → told values ≡ refused_by a → ⊥
+never-told values a e = let z : true ≡ false = ap is_told e ∙ not-told a in cc
+
+-- ---- the number of a refusal is document 01's
+
+pub number-by : (a : Refusal) → answer_of (refused_by a) ≡ numbers.answer_of {A = Unit {0}} no_values (Err a)
+unfolding answer_of cut_number
+number-by Short = refl
+number-by Magic = refl
+number-by Version = refl
+number-by InfoTooLong = refl
+number-by NoRoom = refl
+number-by NotNow = refl
+number-by LowId = refl
+number-by BytesOwed = refl
+number-by (Cut c) = go c.part refl
+  where
+    go : (x : CutPart) → c.part ≡ x → answer_of (cut_short c) ≡ refused 9
+    go Header e = rw e refl
+    go Data e = rw e refl
+    go Crc e = rw e refl
+number-by WrongSum = refl
+number-by OutsideImage = refl
+number-by OutOfRange = refl
+
+-- ---- nor are two results, where `values` tells what a call gives apart
+
+pub reply-one : {A : Type 0} (values : A → List ℕ) → ((x y : A) → values x ≡ values y → x ≡ y) → (a b : Result A Refusal) → reply_of values a ≡ reply_of values b → a ≡ b
+reply-one values same (Ok x) (Ok y) e = let z : values x ≡ values y = cc in ap Ok (same x y z)
+reply-one values same (Ok x) (Err b) e = absurd (never-told (values x) b e)
+reply-one values same (Err a) (Ok y) e = absurd (never-told (values y) a (sym e))
+reply-one values same (Err a) (Err b) e = ap Err (refused-one a b e)
+
+no-one : (x y : Unit {0}) → no_values x ≡ no_values y → x ≡ y
+no-one x y e = refl
+
+entry-one : (x y : Option ℕ) → entry_values x ≡ entry_values y → x ≡ y
+entry-one (Some i) (Some j) e = cc
+entry-one (Some i) None e = cc
+entry-one None (Some j) e = cc
+entry-one None None e = refl
+
+chunk-one : (x y : ReadChunkResult) → chunk_values x ≡ chunk_values y → x ≡ y
 chunk-one (Chunk m n) (Chunk p q) e = cc
 chunk-one (Chunk m n) EndOfEntry e = cc
 chunk-one (Chunk m n) AbortedEntry e = cc
-chunk-one (Chunk m n) (HeaderCut p) e = cc
-chunk-one (Chunk m n) (NoChunk p) e = cc
 chunk-one EndOfEntry (Chunk p q) e = cc
 chunk-one EndOfEntry EndOfEntry e = refl
 chunk-one EndOfEntry AbortedEntry e = cc
-chunk-one EndOfEntry (HeaderCut p) e = cc
-chunk-one EndOfEntry (NoChunk p) e = cc
 chunk-one AbortedEntry (Chunk p q) e = cc
 chunk-one AbortedEntry EndOfEntry e = cc
 chunk-one AbortedEntry AbortedEntry e = refl
-chunk-one AbortedEntry (HeaderCut p) e = cc
-chunk-one AbortedEntry (NoChunk p) e = cc
-chunk-one (HeaderCut m) (Chunk p q) e = cc
-chunk-one (HeaderCut m) EndOfEntry e = cc
-chunk-one (HeaderCut m) AbortedEntry e = cc
-chunk-one (HeaderCut c) (HeaderCut d) e = ap HeaderCut (cut-one c d (cc))
-chunk-one (HeaderCut m) (NoChunk p) e = cc
-chunk-one (NoChunk m) (Chunk p q) e = cc
-chunk-one (NoChunk m) EndOfEntry e = cc
-chunk-one (NoChunk m) AbortedEntry e = cc
-chunk-one (NoChunk m) (HeaderCut p) e = cc
-chunk-one (NoChunk m) (NoChunk p) e = cc
 
-read_one : (a b : ReadAnswer) → read_as a ≡ read_as b → a ≡ b
-read_one (Read m n) (Read p q) e = cc
-read_one (Read m n) (NotRead p) e = cc
-read_one (NotRead m) (Read p q) e = cc
-read_one (NotRead m) (NotRead p) e = cc
+read_one : (x y : ℕ × ℕ) → read_values x ≡ read_values y → x ≡ y
+read_one (a, m) (b, n) e = cc
 
-crc-one : (a b : CrcAnswer) → crc_as a ≡ crc_as b → a ≡ b
-crc-one Right Right e = refl
-crc-one Right Wrong e = cc
-crc-one Right (CrcCut p) e = cc
-crc-one Right (NotChecked p) e = cc
-crc-one Wrong Right e = cc
-crc-one Wrong Wrong e = refl
-crc-one Wrong (CrcCut p) e = cc
-crc-one Wrong (NotChecked p) e = cc
-crc-one (CrcCut m) Right e = cc
-crc-one (CrcCut m) Wrong e = cc
-crc-one (CrcCut c) (CrcCut d) e = ap CrcCut (cut-one c d (cc))
-crc-one (CrcCut m) (NotChecked p) e = cc
-crc-one (NotChecked m) Right e = cc
-crc-one (NotChecked m) Wrong e = cc
-crc-one (NotChecked m) (CrcCut p) e = cc
-crc-one (NotChecked m) (NotChecked p) e = cc
+crc-one : (x y : Bool) → crc_values x ≡ crc_values y → x ≡ y
+crc-one true true e = refl
+crc-one true false e = cc
+crc-one false true e = cc
+crc-one false false e = refl
 
-skip-one : (a b : SkipAnswer) → skip_as a ≡ skip_as b → a ≡ b
-skip-one Skipped Skipped e = refl
-skip-one Skipped (NotSkipped p) e = cc
-skip-one (NotSkipped m) Skipped e = cc
-skip-one (NotSkipped m) (NotSkipped p) e = cc
+whole_one : (x y : WholeEntry) → whole_values x ≡ whole_values y → x ≡ y
+whole_one (Whole m n) (Whole p q) e = cc
+whole_one (Whole m n) Aborted e = cc
+whole_one Aborted (Whole p q) e = cc
+whole_one Aborted Aborted e = refl
 
-whole-one : (a b : WholeAnswer) → whole_reply_as a ≡ whole_reply_as b → a ≡ b
-whole-one (Whole m n) (Whole p q) e = cc
-whole-one (Whole m n) Aborted e = cc
-whole-one (Whole m n) (WholeCut p) e = cc
-whole-one (Whole m n) (NotWhole p) e = cc
-whole-one Aborted (Whole p q) e = cc
-whole-one Aborted Aborted e = refl
-whole-one Aborted (WholeCut p) e = cc
-whole-one Aborted (NotWhole p) e = cc
-whole-one (WholeCut m) (Whole p q) e = cc
-whole-one (WholeCut m) Aborted e = cc
-whole-one (WholeCut c) (WholeCut d) e = ap WholeCut (cut-one c d (cc))
-whole-one (WholeCut m) (NotWhole p) e = cc
-whole-one (NotWhole m) (Whole p q) e = cc
-whole-one (NotWhole m) Aborted e = cc
-whole-one (NotWhole m) (WholeCut p) e = cc
-whole-one (NotWhole m) (NotWhole p) e = cc
+pub whole-one : (a b : Result WholeEntry Refusal) → reply_of whole_values a ≡ reply_of whole_values b → a ≡ b
+whole-one = reply-one whole_values whole_one
+
+pub opened-one : (a b : Result (Unit {0}) Refusal) → reply_of no_values a ≡ reply_of no_values b → a ≡ b
+opened-one = reply-one no_values no-one
+
+pub entered-one : (a b : Result (Option ℕ) Refusal) → reply_of entry_values a ≡ reply_of entry_values b → a ≡ b
+entered-one = reply-one entry_values entry-one
+
+-- what is seen of a part: the place that it begins at, and its bytes
+abbrev pub seen : Result Part Refusal → Result (ℕ × List ℕ) Refusal
+seen (Ok p) = Ok (p.place, p.bytes.now)
+seen (Err why) = Err why
+
+seen-one : (a b : Result Part Refusal) → reply_of part_values a ≡ reply_of part_values b → bytes_of a ≡ bytes_of b → seen a ≡ seen b
+seen-one (Ok p) (Ok q) e f = let z : p.place ≡ q.place = cc in λ i. Ok (z i, f i)
+seen-one (Ok p) (Err b) e f = absurd (never-told _ b e)
+seen-one (Err a) (Ok q) e f = absurd (never-told _ a (sym e))
+seen-one (Err a) (Err b) e f = ap Err (refused-one a b e)
 
 -- ---- the promises
 
-pub new-one-answer : (file : ℕ) (image : List ℕ) (s t : Opening) → NewAllows file image s → NewAllows file image t → s ≡ t
-new-one-answer file image s t x y =
-    let q : s.reader ≡ t.reader = ap (λ (z : Step). z.reader) (x ∙ sym y) in
-    let a : s.answer ≡ t.answer = open-one s.answer t.answer (ap (λ (z : Step). z.reply) (x ∙ sym y)) in
-    λ i. record { reader = q i; answer = a i }
+pub replies : {x y z : Step} → x ≡ z → y ≡ z → x.reply ≡ y.reply
+replies p q = ap (λ (s : Step). s.reply) (p ∙ sym q)
 
-pub read-entry-one-answer : (r : SegmentReader) (image : List ℕ) (s t : EntryStep) → ReadEntryAllows r image s → ReadEntryAllows r image t → s ≡ t
-read-entry-one-answer r image s t x y =
-    let q : s.reader ≡ t.reader = ap (λ (z : Step). z.reader) (x ∙ sym y) in
-    let a : s.answer ≡ t.answer = entry-one s.answer t.answer (ap (λ (z : Step). z.reply) (x ∙ sym y)) in
-    λ i. record { reader = q i; answer = a i }
+pub readers : {x y z : Step} → x ≡ z → y ≡ z → x.reader ≡ y.reader
+readers p q = ap (λ (s : Step). s.reader) (p ∙ sym q)
 
-pub read-chunk-one-answer : (r : SegmentReader) (image : List ℕ) (s t : ChunkStep) → ReadChunkAllows r image s → ReadChunkAllows r image t → s ≡ t
-read-chunk-one-answer r image s t x y =
-    let q : s.reader ≡ t.reader = ap (λ (z : Step). z.reader) (x ∙ sym y) in
-    let a : s.answer ≡ t.answer = chunk-one s.answer t.answer (ap (λ (z : Step). z.reply) (x ∙ sym y)) in
-    λ i. record { reader = q i; answer = a i }
+pub new-one-answer : (file : ℕ) (image : List ℕ) (s t : Result (Unit {0}) Refusal) (p q : SegmentReader) → NewAllows file image s p → NewAllows file image t q
+    → (s ≡ t) × (p ≡ q)
+new-one-answer file image s t p q x y = (reply-one no_values no-one s t (replies x y), readers x y)
 
-pub after-read-one-answer : (r : SegmentReader) (image : List ℕ) (asked : ℕ) (s t : ReadStep) → AfterReadAllows r image asked s → AfterReadAllows r image asked t → s ≡ t
-after-read-one-answer r image asked s t x y =
-    let q : s.reader ≡ t.reader = ap (λ (z : Step). z.reader) (x ∙ sym y) in
-    let a : s.answer ≡ t.answer = read_one s.answer t.answer (ap (λ (z : Step). z.reply) (x ∙ sym y)) in
-    λ i. record { reader = q i; answer = a i }
+module _ (r : SegmentReader) (image : List ℕ) where
+  pub read-entry-one-answer : (s t : Result (Option ℕ) Refusal) (p q : SegmentReader) → ReadEntryAllows r image s p → ReadEntryAllows r image t q → (s ≡ t) × (p ≡ q)
+  read-entry-one-answer s t p q x y = (entered-one s t (replies x y), readers x y)
 
-pub skip-one-answer : (r : SegmentReader) (image : List ℕ) (s t : SkipStep) → SkipAllows r image s → SkipAllows r image t → s ≡ t
-skip-one-answer r image s t x y =
-    let q : s.reader ≡ t.reader = ap (λ (z : Step). z.reader) (x ∙ sym y) in
-    let a : s.answer ≡ t.answer = skip-one s.answer t.answer (ap (λ (z : Step). z.reply) (x ∙ sym y)) in
-    λ i. record { reader = q i; answer = a i }
+  pub read-chunk-one-answer : (s t : Result ReadChunkResult Refusal) (p q : SegmentReader) → ReadChunkAllows r image s p → ReadChunkAllows r image t q
+      → (s ≡ t) × (p ≡ q)
+  read-chunk-one-answer s t p q x y = (reply-one chunk_values chunk-one s t (replies x y), readers x y)
 
-pub read-all-chunks-one-answer : (r : SegmentReader) (image : List ℕ) (s t : WholeStep) → ReadAllChunksAllows r image s → ReadAllChunksAllows r image t → s ≡ t
-read-all-chunks-one-answer r image s t x y =
-    let q : s.reader ≡ t.reader = ap (λ (z : Step). z.reader) (x ∙ sym y) in
-    let a : s.answer ≡ t.answer = whole-one s.answer t.answer (ap (λ (z : Step). z.reply) (x ∙ sym y)) in
-    λ i. record { reader = q i; answer = a i }
+  pub read-one-answer : (asked : ℕ) (s t : Result Part Refusal) (p q : SegmentReader) → ReadAllows r image asked s p → ReadAllows r image asked t q
+      → (seen s ≡ seen t) × (p ≡ q)
+  read-one-answer asked s t p q x y = (seen-one s t (replies x.0 y.0) (x.1 ∙ sym y.1), readers x.0 y.0)
 
-pub read-one-answer : (r : SegmentReader) (image : List ℕ) (asked : ℕ) (s t : List ℕ) → ReadAllows r image asked s → ReadAllows r image asked t → s ≡ t
-read-one-answer r image asked s t x y = x ∙ sym y
+  pub after-read-one-answer : (asked : ℕ) (s t : Result (ℕ × ℕ) Refusal) (p q : SegmentReader) → AfterReadAllows r image asked s p → AfterReadAllows r image asked t q
+      → (s ≡ t) × (p ≡ q)
+  after-read-one-answer asked s t p q x y = (reply-one read_values read_one s t (replies x y), readers x y)
 
-pub check-crc-one-answer : (r : SegmentReader) (image : List ℕ) (s t : CrcAnswer) → CheckCrcAllows r image s → CheckCrcAllows r image t → s ≡ t
-check-crc-one-answer r image s t x y = crc-one s t (x ∙ sym y)
+  -- one read gives both
+  pub read-gives : (asked : ℕ) (s : Result Part Refusal) (q : SegmentReader) → ReadAllows r image asked s q
+      → AfterReadAllows r image asked (numbers_in s) q × PartAllows r image asked (bytes_of s)
+  read-gives asked (Ok p) q x = (x.0, x.1)
+  read-gives asked (Err why) q x = (x.0, x.1)
 
-pub version-info-one-answer : (r : SegmentReader) (image s t : List ℕ) → VersionInfoAllows r image s → VersionInfoAllows r image t → s ≡ t
-version-info-one-answer r image s t x y = x ∙ sym y
+  pub part-one-answer : (asked : ℕ) (s t : List ℕ) → PartAllows r image asked s → PartAllows r image asked t → s ≡ t
+  part-one-answer asked s t x y = x ∙ sym y
+
+  pub check-crc-one-answer : (s t : Result Bool Refusal) → CheckCrcAllows r image s → CheckCrcAllows r image t → s ≡ t
+  check-crc-one-answer s t x y = reply-one crc_values crc-one s t (x ∙ sym y)
+
+  pub skip-one-answer : (s t : Result (Unit {0}) Refusal) (p q : SegmentReader) → SkipAllows r image s p → SkipAllows r image t q → (s ≡ t) × (p ≡ q)
+  skip-one-answer s t p q x y = (reply-one no_values no-one s t (replies x y), readers x y)
+
+  pub read-all-chunks-one-answer : (s t : Result WholeEntry Refusal) (p q : SegmentReader) → ReadAllChunksAllows r image s p → ReadAllChunksAllows r image t q
+      → (s ≡ t) × (p ≡ q)
+  read-all-chunks-one-answer s t p q x y = (whole-one s t (replies x y), readers x y)
+
+  pub version-info-one-answer : (s t : List ℕ) → VersionInfoAllows r image s → VersionInfoAllows r image t → s ≡ t
+  version-info-one-answer s t x y = x ∙ sym y

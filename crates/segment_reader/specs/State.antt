@@ -5,10 +5,6 @@ use Rattle.entry.specs.Format.{largest_image}
 use Rattle.segment_reader.specs.declared.Moment.{Moment}
 use Rattle.segment_reader.specs.declared.Moment.TheVariants.{Between, InEntry, InChunk, Ended}
 use Rattle.segment_reader.specs.declared.SegmentReader.{SegmentReader}
-use Rattle.segment_reader.specs.declared.state.Start.{Start}
-use Rattle.segment_reader.specs.declared.state.Start.TheVariants.{Unfit, Over, Idle, Current}
-use Rattle.segment_reader.specs.declared.state.Open.{Open}
-use Rattle.segment_reader.specs.declared.state.Open.TheVariants.{Refused, Chunk}
 
 -- in a chunk: owed does not exceed n, and the 02's offset + 5 + n - owed is the place
 unfoldable pub stands_at : (mark n owed place : ℕ) → Bool
@@ -24,7 +20,12 @@ in_place Ended place = true
 unfoldable pub fit : SegmentReader → (size : ℕ) → Bool
 fit r size = leb size largest_image && eqb r.size size && leb r.place (2 ^ 33) && in_place r.moment r.place
 
--- calls for an entry, a chunk or a whole entry first leave an open chunk: the place is its 02 + 9 + n
+-- where a call for an entry, a chunk or a whole entry begins: not at all, since the state is not fit; the reading is over; no entry is current; in one
+pub data Start : Type 0 where
+  Unfit Over Idle : Start
+  Current : (id place : ℕ) → Start
+
+-- these calls first leave an open chunk: the place is its 02 + 9 + n
 unfoldable pub leaving : Moment → (place : ℕ) → Start
 leaving Between place = Idle
 leaving (InEntry id) place = Current id place
@@ -34,7 +35,12 @@ leaving Ended place = Over
 unfoldable pub start_of : SegmentReader → (size : ℕ) → Start
 start_of r size = cond (fit r size) (leaving r.moment r.place) Unfit
 
--- the open chunk that a call needs, or 12, or 6
+-- the open chunk that a call needs, or the number of its refusal
+pub data Open : Type 0 where
+  Refused : (number' : ℕ) → Open
+  Chunk : (id mark n owed : ℕ) → Open
+
+-- 12, or 6
 unfoldable pub holding : Moment → Open
 holding Between = Refused 6
 holding (InEntry id) = Refused 6

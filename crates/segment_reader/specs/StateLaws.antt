@@ -2,12 +2,11 @@
 use Rattle.std.specs.Prelude.{Bool, true, false, ◌&&◌, cond, ◌≡◌, refl, List, ℕ, ◌+◌, ◌-◌, ◌^◌, ◌≤◌, length, leb, eqb}
 use Rattle.std.proofs.Common.{ap, arith, leb-true, eqb-true}
 use Rattle.entry.specs.Format.{largest_image}
-use Rattle.segment_reader.specs.Reading.{fits}
-use Rattle.segment_reader.specs.State.{stands_at, in_place, fit, holding, open_of}
+use Rattle.reading.specs.Reading.{fits}
+use Rattle.segment_reader.specs.State.{stands_at, in_place, fit, holding, open_of, Refused, Chunk}
 use Rattle.segment_reader.specs.declared.Moment.{Moment}
 use Rattle.segment_reader.specs.declared.Moment.TheVariants.{Between, InEntry, InChunk, Ended}
 use Rattle.segment_reader.specs.declared.SegmentReader.{SegmentReader}
-use Rattle.segment_reader.specs.declared.state.Open.TheVariants.{Refused, Chunk}
 
 pub record Fit (r : SegmentReader) (size : ℕ) : Type 0 where
   pub small : size ≤ largest_image

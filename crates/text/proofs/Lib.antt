@@ -1,6 +1,7 @@
--- Laws that the proofs of functions cite: places in a text, the same text, numbers, pairs of digits.
-pub mod Places
+-- What the proofs of functions cite.
 pub mod Sames
+pub mod Places
 pub mod Numbers
 pub mod Pairs
 pub mod Ranges
+pub mod DigitByDigit

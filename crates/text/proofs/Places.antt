@@ -1,5 +1,6 @@
 -- The place of the first stop: what stands before it, at it and behind it, as loops and slices have it.
-use Rattle.std.proofs.Common.{◌≡◌, refl, sym, ap, ◌∙◌, Bool, true, false, cond, List, [], ◌∷◌, ℕ, zero, suc, ◌+◌, ◌-◌, ◌≤◌, ◌<◌, min, add-zero, add-suc, add-one, arith, length, get_or, take, drop, drop_of_length-le, drop-drop, drop-cons, eqb, eq-eqb, ne_eqb}
+use Rattle.std.proofs.Common.{◌≡◌, refl, sym, ap, ◌∙◌, Bool, true, false, cond, List, [], ◌∷◌, ℕ, zero, suc, ◌+◌, ◌-◌, ◌≤◌, ◌<◌, min, add-suc, add-one, arith, length, take, drop, drop_of_length-le, drop-drop, eqb, ltb, ltb-false, length-drop, Option, Some, None, position}
+use Rattle.std.specs.List.{position_or_len}
 use Rattle.std.proofs.Math.Nat.{zero-min, min-zero, suc-min-suc}
 use Rattle.lists.specs.ChoiceLaws.{either}
 use Rattle.text.specs.Text.{until, behind, place, words_from, word_at}
@@ -46,18 +47,39 @@ module _ (stop : ℕ) where
   unfolding place
   begins s from i e = rw (e, drop-min-length)
 
-  pub found : (s : List ℕ) (i : ℕ) {n : ℕ} → i < length s → get_or s i 0 ≡ stop → i + length (until stop (drop i s)) ≡ n → i ≡ n
+  -- std's position is the length of what stands before the stop
+  until_by_std : (s : List ℕ) → position_or_len (λ c. eqb c stop) s ≡ length (until stop s)
   unfolding until
-  found s i h e p = rw (drop-cons s i 0 h, eq-eqb (get_or s i 0) stop e, add-zero) at p
+  until_by_std [] = refl
+  until_by_std (c ∷ s) = turn (eqb c stop) refl (until_by_std s)
+    where
+      turn : (b : Bool) → eqb c stop ≡ b → position_or_len (λ x. eqb x stop) s ≡ length (until stop s)
+          → position_or_len (λ x. eqb x stop) (c ∷ s) ≡ length (cond b [] (c ∷ until stop s))
+      turn true e rest = rw e
+      turn false e rest = rw e (ap (λ n. 1 + n) rest ∙ omega arith)
 
-  pub goes_on : (s : List ℕ) (i : ℕ) {n : ℕ} → i < length s → (get_or s i 0 ≡ stop → ⊥) → i + length (until stop (drop i s)) ≡ n
-      → i + 1 + length (until stop (drop (i + 1) s)) ≡ n
-  unfolding until
-  goes_on s i h e p = rw add-one (omega (arith, rw (drop-cons s i 0 h, ne_eqb (get_or s i 0) stop e) at p))
+  found : (s : List ℕ) (r : Option ℕ) (n : ℕ) → r ≡ position (λ c. eqb c stop) s → r ≡ Some n → n ≡ length (until stop s)
+  found s r n e f = go (ltb (position_or_len (λ c. eqb c stop) s) (length s)) refl
+    where
+      go : (b : Bool) → ltb (position_or_len (λ c. eqb c stop) s) (length s) ≡ b → n ≡ length (until stop s)
+      go true q = let g : Some n ≡ Some (position_or_len (λ c. eqb c stop) s) = sym f ∙ rw q at e in cc (g, until_by_std s)
+      go false q = let g : Some n ≡ None = sym f ∙ rw q at e in let z : ◌≡◌ {A = ℕ} 0 1 = cc in absurd (omega arith)
 
-  pub ends : (s : List ℕ) (i : ℕ) {n : ℕ} → length s ≤ i → i + length (until stop (drop i s)) ≡ n → i ≡ n
-  unfolding until
-  ends s i h p = rw (drop_of_length-le s h, add-zero) at p
+  missed : (s : List ℕ) (r : Option ℕ) → r ≡ position (λ c. eqb c stop) s → r ≡ None → length s ≤ length (until stop s)
+  missed s r e f = go (ltb (position_or_len (λ c. eqb c stop) s) (length s)) refl
+    where
+      go : (b : Bool) → ltb (position_or_len (λ c. eqb c stop) s) (length s) ≡ b → length s ≤ length (until stop s)
+      go true q = let g : None ≡ Some (position_or_len (λ c. eqb c stop) s) = sym f ∙ rw q at e in let z : ◌≡◌ {A = ℕ} 0 1 = cc in absurd (omega arith)
+      go false q = let p = ltb-false (position_or_len (λ c. eqb c stop) s) (length s) q in rw (until_by_std s) at p
+
+  -- counted from the place that is searched from
+  pub found_from : (s : List ℕ) (from i : ℕ) (r : Option ℕ) (n : ℕ) → i ≡ min from (length s) → r ≡ position (λ c. eqb c stop) (drop i s) → r ≡ Some n
+      → i + n ≡ place s from stop
+  found_from s from i r n h e f = rw (found (drop i s) r n e f) (begins s from i h)
+
+  pub missed_from : (s : List ℕ) (from i : ℕ) (r : Option ℕ) → i ≡ min from (length s) → r ≡ position (λ c. eqb c stop) (drop i s) → r ≡ None
+      → length s ≡ place s from stop
+  missed_from s from i r h e f = omega (arith, missed (drop i s) r e f, begins s from i h, place-le s from stop, length-drop i s)
 
   -- ---- the place of the stop
 

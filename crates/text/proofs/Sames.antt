@@ -1,28 +1,14 @@
--- Two texts compared byte by byte: what is left of both is the same just where both are.
-use Rattle.std.proofs.Common.{◌≡◌, refl, ap, Bool, true, false, List, [], ◌∷◌, ℕ, suc, ◌+◌, ◌≤◌, ◌<◌, add-one, length, get_or, drop, drop_of_length-le, drop-cons, eq-eqb, ne_eqb}
-use Rattle.std.proofs.Math.Bool.{and-false}
+-- Two texts that std's `==` finds equal, byte by byte.
+use Rattle.std.proofs.Common.{◌≡◌, refl, ◌∙◌, Bool, List, [], ◌∷◌, ℕ, ◌&&◌, eqb, nat_eq, ap}
+use Rattle.std.specs.Cmp.Lexicographic.{pointwise}
 use Rattle.text.specs.Text.{same}
 
-pub other-lengths : (a b : List ℕ) → (length a ≡ length b → ⊥) → false ≡ same a b
+same_by_std : (a b : List ℕ) → pointwise nat_eq a b ≡ same a b
 unfolding same
-other-lengths [] [] h = absurd (h refl)
-other-lengths [] (y ∷ b) h = refl
-other-lengths (x ∷ a) [] h = refl
-other-lengths (x ∷ a) (y ∷ b) h = rw (← other-lengths a b (λ e. h (ap suc e)), and-false)
+same_by_std [] [] = refl
+same_by_std [] (y ∷ b) = refl
+same_by_std (x ∷ a) [] = refl
+same_by_std (x ∷ a) (y ∷ b) = ap (λ r. eqb x y && r) (same_by_std a b)
 
-module _ (a b : List ℕ) (i : ℕ) {r : Bool} (so_far : same (drop i a) (drop i b) ≡ r) where
-  pub differs : i < length a → i < length b → (get_or a i 0 ≡ get_or b i 0 → ⊥) → false ≡ r
-  unfolding same
-  differs h k e = rw (drop-cons a i 0 h, drop-cons b i 0 k, ne_eqb (get_or a i 0) (get_or b i 0) e) at so_far
-
-  pub goes_on : i < length a → i < length b → get_or a i 0 ≡ get_or b i 0 → same (drop (i + 1) a) (drop (i + 1) b) ≡ r
-  unfolding same
-  goes_on h k e = rw add-one (rw (drop-cons a i 0 h, drop-cons b i 0 k, eq-eqb (get_or a i 0) (get_or b i 0) e) at so_far)
-
-  pub ends : length a ≤ i → length b ≤ i → true ≡ r
-  unfolding same
-  ends h k = rw (drop_of_length-le a h, drop_of_length-le b k) at so_far
-
--- ---- what the code is proved by
-
-pub ruleset turns = (other-lengths, differs, goes_on, ends)
+pub equal : (a b : List ℕ) {r : Bool} → r ≡ pointwise nat_eq a b → r ≡ same a b
+equal a b e = e ∙ same_by_std a b

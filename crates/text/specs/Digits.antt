@@ -1,4 +1,5 @@
--- A number of which some digits are read: what `with_digit` answers, and what the loop of `decimal` has left. No public promise speaks of it.
+-- A number of which some digits are read: what one digit more makes of it, and what the rest does. No public promise speaks of it; std's `parse` reads
+-- the digits of `decimal`.
 use Rattle.std.specs.Prelude.{cond, List, [], ◌∷◌, ℕ, ◌+◌, ◌*◌, ◌^◌, length, ltb}
 use Rattle.std.proofs.Math.Option.{Option, none, some}
 use Rattle.lists.specs.Answers.{all}

@@ -1,11 +1,8 @@
 -- What words are read by: the same text, a word of a line, a number in decimal, bytes as pairs of hex digits. Texts are lists of bytes, in
 -- ASCII. Total: each definition answers any list. The laws are in `TextLaws`.
-use Rattle.std.specs.Prelude.{◌≡◌, Bool, true, false, cond, ◌&&◌, List, [], ◌∷◌, ℕ, zero, suc, ◌+◌, ◌-◌, ◌*◌, ◌^◌, min, length, take, drop, leb, ltb, eqb}
-use Rattle.std.proofs.Math.Option.{Option, none, some}
+use Rattle.std.specs.Prelude.{◌≡◌, Bool, true, false, cond, ◌&&◌, List, [], ◌∷◌, ℕ, zero, suc, ◌+◌, ◌-◌, ◌*◌, ◌^◌, min, length, take, drop, leb, ltb, eqb, Option, Some, None}
 use Rattle.lists.specs.Answers.{all}
 use Rattle.lists.specs.Lay.{lay}
-use Rattle.text.specs.declared.Number.{Number}
-use Rattle.text.specs.declared.Number.TheVariants.{Of, Not}
 
 -- ---- the same text: as long, and the same byte at each place
 
@@ -63,16 +60,12 @@ value (c ∷ s) = (c - 48) * 10 ^ length s + value s
 
 -- one digit or more and nothing else, below 2^64
 unfoldable pub decimal : List ℕ → Option ℕ
-decimal s = cond (all (ltb 0 (length s) ∷ all_digits s ∷ ltb (value s) (2 ^ 64) ∷ [])) (some (value s)) none
-
-abbrev pub number_as : Number → Option ℕ
-number_as (Of n) = some n
-number_as Not = none
+decimal s = cond (all (ltb 0 (length s) ∷ all_digits s ∷ ltb (value s) (2 ^ 64) ∷ [])) (Some (value s)) None
 
 -- the number, 0 where there is none
 abbrev pub or_zero : Option ℕ → ℕ
-or_zero (some n) = n
-or_zero none = 0
+or_zero (Some n) = n
+or_zero None = 0
 
 -- ---- bytes as pairs of hex digits
 

@@ -1,6 +1,5 @@
 -- Worked examples of the definitions of `Text`, on texts as they are written.
-use Rattle.std.specs.Prelude.{◌≡◌, refl, true, false, List, [], ◌∷◌, ℕ}
-use Rattle.std.proofs.Math.Option.{none, some}
+use Rattle.std.specs.Prelude.{◌≡◌, refl, true, false, List, [], ◌∷◌, ℕ, Some, None}
 use Prim.Native.Char.{code}
 use Prim.Native.String.{String}
 use Prim.Native.String as string
@@ -67,29 +66,34 @@ empty-word = refl
 
 -- ---- numbers in decimal
 
-greatest : decimal (ascii "18446744073709551615") ≡ some 18446744073709551615
+greatest : decimal (ascii "18446744073709551615") ≡ Some 18446744073709551615
 unfolding decimal all_digits value
 greatest = refl
 
-one-too-many : decimal (ascii "18446744073709551616") ≡ none
+one-too-many : decimal (ascii "18446744073709551616") ≡ None
 unfolding decimal all_digits value
 one-too-many = refl
 
-leading_zeros : decimal (ascii "0000000000000000000000120") ≡ some 120
+leading_zeros : decimal (ascii "0000000000000000000000120") ≡ Some 120
 unfolding decimal all_digits value
 leading_zeros = refl
 
-empty : decimal (ascii "") ≡ none
+empty : decimal (ascii "") ≡ None
 unfolding decimal all_digits value
 empty = refl
 
-no_digit : decimal (ascii "1a") ≡ none
+no_digit : decimal (ascii "1a") ≡ None
 unfolding decimal all_digits value
 no_digit = refl
 
-signed : decimal (ascii "-1") ≡ none
+signed : decimal (ascii "-1") ≡ None
 unfolding decimal all_digits value
 signed = refl
+
+-- std's own parse takes a plus
+plus : decimal (ascii "+7") ≡ None
+unfolding decimal all_digits value
+plus = refl
 
 -- ---- bytes as pairs of hex digits
 

@@ -1,13 +1,11 @@
 -- What the definitions of `Text` mean, and that each promise allows one answer. Worked examples are in `TextExamples`.
-use Rattle.std.specs.Prelude.{◌≡◌, refl, Bool, true, false, cond, List, [], ◌∷◌, ◌++◌, ℕ, suc, ◌+◌, ◌-◌, ◌*◌, ◌^◌, ◌≤◌, ◌<◌, length, drop, eqb}
+use Rattle.std.specs.Prelude.{◌≡◌, refl, Bool, true, false, cond, List, [], ◌∷◌, ◌++◌, ℕ, suc, ◌+◌, ◌-◌, ◌*◌, ◌^◌, ◌≤◌, ◌<◌, length, drop, eqb, Option, Some, None}
 use Rattle.std.proofs.Common.{ap, sym, ◌∙◌, mul_assoc, pow-suc, add-one, arith, length-append, length-drop, eqb-true, eq-eqb, ne_eqb}
 use Rattle.std.proofs.lemmas.Bool.{eqb-false}
 use Rattle.lists.specs.All.{All}
 use Rattle.lists.specs.AnswersLaws.{both}
 use Rattle.lists.specs.ChoiceLaws.{either}
-use Rattle.text.specs.declared.Number.{Number}
-use Rattle.text.specs.declared.Number.TheVariants.{Of, Not}
-use Rattle.text.specs.Text.{first, same, until, behind, place, words_from, word_at, value, decimal, number_as, or_zero, UnhexAllows}
+use Rattle.text.specs.Text.{first, same, until, behind, place, words_from, word_at, value, decimal, or_zero, UnhexAllows}
 
 -- ---- the same text is the same list
 
@@ -121,14 +119,14 @@ find-one-answer s from stop r r' x y = x ∙ sym y
 pub word-one-answer : (line : List ℕ) (k : ℕ) (r r' : List ℕ) → r ≡ word_at k line → r' ≡ word_at k line → r ≡ r'
 word-one-answer line k r r' x y = x ∙ sym y
 
-number-one : (a b : Number) → number_as a ≡ number_as b → a ≡ b
-number-one (Of m) (Of n) e = cc
-number-one (Of m) Not e = let z : ◌≡◌ {A = ℕ} 0 1 = cc in absurd (omega arith)
-number-one Not (Of n) e = let z : ◌≡◌ {A = ℕ} 0 1 = cc in absurd (omega arith)
-number-one Not Not e = refl
+-- answers that give the same numbers are the same answer
+number-one : (a b : Option ℕ) → ((n : ℕ) → a ≡ Some n → b ≡ Some n) → ((n : ℕ) → b ≡ Some n → a ≡ Some n) → a ≡ b
+number-one (Some m) b there back = sym (there m refl)
+number-one None (Some n) there back = back n refl
+number-one None None there back = refl
 
-pub decimal-one-answer : (s : List ℕ) (r r' : Number) → number_as r ≡ decimal s → number_as r' ≡ decimal s → r ≡ r'
-decimal-one-answer s r r' x y = number-one r r' (x ∙ sym y)
+pub decimal-one-answer : (s : List ℕ) (r r' : Option ℕ) → r ≡ decimal s → r' ≡ decimal s → r ≡ r'
+decimal-one-answer s r r' x y = x ∙ sym y
 
 pub decimal-or-zero-one-answer : (s : List ℕ) (r r' : ℕ) → r ≡ or_zero (decimal s) → r' ≡ or_zero (decimal s) → r ≡ r'
 decimal-or-zero-one-answer s r r' x y = x ∙ sym y

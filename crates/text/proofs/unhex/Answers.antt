@@ -8,5 +8,5 @@ pub returns : goal.returns
 returns c =
     let s = c.args.s.now in
     let out = c.args.out.now in
-    let e : c.smaller-n.result ≡ length (fitting s out) = as_many s out _ c.smaller-n.ensures in
-    (e, ends s out c.loop-i.out c.loop-i.i c.loop-i.invariant.1 (omega arith))
+    let e : c.min-n.result ≡ length (fitting s out) = as_many s out _ c.min-n.ensures in
+    (e, ends s out c.loop-i.out c.loop-i.i c.loop-i.invariant (omega arith))

@@ -1,18 +1,17 @@
 -- The reading under way, by `Going`.
-use Rattle.std.proofs.Common.{arith}
-use Rattle.segment_reader.proofs.Going.{going-begins, going_on}
+use Rattle.std.proofs.Common.{refl, arith}
+use Rattle.segment_reader.proofs.Entered.{are-bytes}
+use Rattle.segment_reader.proofs.Going.{going-begins, going-refused, going-ends}
 use Rattle.segment_reader.proofs.survey.read_segment.Goals as goal
 
-pub loop-next-init : goal.loop-next-init
-loop-next-init c = going-begins _ _ _ c.new-opening.result c.new-opening.ensures c.in_default.is
+pub returns-in_err-open-clause-allows : goal.returns-in_err-open-clause-allows
+returns-in_err-open-clause-allows c =
+    let h = going-refused c.args.file_id c.args.image.now c.args.list.now c.in_err-open.field-0.0 c.open.new.self c.in_err-open.ensures.allows in
+    grind arith
 
-pub overflow_add-complete : goal.overflow_add-complete
-overflow_add-complete c =
-    let g = going_on _ _ _ _ _ _ _ c.loop-next.invariant _ _ _ _ _ c.in-Found.ensures c.note.ensures in
-    let a = g.few in
-    let b = g.fewer in
-    let h = g.ready.led.near in
-    omega arith
+pub loop-entry-init : goal.loop-entry-init
+loop-entry-init c = rw c.new.ensures (refl, going-begins _ _ _ _ c.in_ok-open.ensures.allows)
 
-pub loop-next-preserved-in-Found : goal.loop-next-preserved-in-Found
-loop-next-preserved-in-Found c = going_on _ _ _ _ _ _ _ c.loop-next.invariant _ _ _ _ _ c.in-Found.ensures c.note.ensures
+pub returns-clause-allows : goal.returns-clause-allows
+returns-clause-allows c =
+    going-ends _ _ _ _ _ _ _ _ (are-bytes _ c.type_inv.image) c.loop-entry.invariant c.in_default.ensures.steps
