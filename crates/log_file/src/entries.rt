@@ -75,6 +75,8 @@ impl LogFileWriter {
         Ok(())
     }
 
+    // The pattern at the head of `write` and `finish` stands in both: one function for the two would hand out a row of five numbers, and would be no plainer.
+
     /// Takes the first bytes of those offered, at most as many as are owed, and reports their number. Refused with `OutOfRange`, `NotNow` unless in a chunk.
     pub fn write(
         &mut self,
