@@ -20,7 +20,7 @@ pub struct Buffered {
     pub synchronized: usize,
 }
 
-/// Every store to an image goes through here or through `clear`.
+/// Every store to an image goes through here, in ascending order.
 fn put(image: &mut [u8], at: usize, bytes: &[u8])
     requires { at + length bytes.now ≤ length image.old }
     ensures { image.new ≡ lay image.old at bytes.now }
@@ -28,12 +28,26 @@ fn put(image: &mut [u8], at: usize, bytes: &[u8])
     lists::copy_at(image, at, bytes);
 }
 
+// Piece by piece through `put`: std's `fill` was tried, and leaves the order of the stores to the C library.
+/// Stores count zeros from the offset at on, as many at a time as zeros holds.
+fn clear_by(image: &mut [u8], at: usize, count: usize, zeros: &[u8])
+    requires { (at + count ≤ length image.old) × (zeros.now ≡ replicate 64 0) }
+    ensures { image.new ≡ lay image.old at (replicate count 0) }
+{
+    let mut i = 0;
+    while i < count {
+        let k = (count - i).min(64);
+        put(image, at + i, &zeros[..k]);
+        i += k;
+    }
+}
+
 /// Stores count zeros from the offset at on.
 pub fn clear(image: &mut [u8], at: usize, count: usize)
     requires { at + count ≤ length image.old }
     ensures { image.new ≡ lay image.old at (replicate count 0) }
 {
-    image[at..at + count].fill(0);
+    clear_by(image, at, count, &[0; 64]);
 }
 
 impl Buffered {
@@ -41,6 +55,7 @@ impl Buffered {
 
     /// Staged bytes go to the image.
     #[tactic(auto, unfolding(crate::specs::Staging::flushed))]
+    #[inline(always)]
     pub fn flush(&mut self, image: &mut [u8], staging: &[u8])
         requires { Room (store image.old staging.now self.old) 0 }
         ensures flushed { store image.new staging.now self.new ≡ flushed (store image.old staging.now self.old) }
@@ -96,7 +111,6 @@ impl Buffered {
     }
 
     /// Two writes, one after the other.
-    #[inline(always)]
     pub fn write_both(&mut self, image: &mut [u8], staging: &mut [u8], one: &[u8], two: &[u8])
         requires { Room (store image.old staging.old self.old) (length one.now + length two.now) }
         ensures written { store image.new staging.new self.new ≡ written (written (store image.old staging.old self.old) one.now) two.now }
@@ -108,6 +122,7 @@ impl Buffered {
 
     /// Nothing where everything below target is on the device already; else a flush if target lies past the file position.
     #[tactic(auto, unfolding(crate::specs::Staging::synchronized))]
+    #[inline(always)]
     pub fn synchronize(&mut self, image: &mut [u8], staging: &[u8], target: u64)
         requires { Room (store image.old staging.now self.old) 0 }
         ensures { store image.new staging.now self.new ≡ synchronized (store image.old staging.now self.old) target }
@@ -122,6 +137,7 @@ impl Buffered {
     }
 
     /// The logical position becomes at most limit, and so does the synchronized number. No byte changes.
+    #[inline(always)]
     pub fn back_to(&mut self, limit: usize)
         ensures { self.new ≡ numbers_back self.old limit }
     {

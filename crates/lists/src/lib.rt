@@ -6,12 +6,16 @@ ghost use Rattle.std.specs.Prelude.{◌≡◌, ◌+◌, ◌≤◌, length};
 ghost use Rattle.lists.specs.Lay.{lay};
 ghost use Rattle.lists.specs.Numbers.{le, number as number_at};
 
-/// Copies src into dst from the offset at on.
+// Byte by byte: std's `copy_from_slice` was tried. The archive for C then wants `memmove` from outside, which it did not want before, and the C library
+// chooses in which order the bytes are stored.
+/// Copies src into dst from the offset at on, in ascending order.
 pub fn copy_at(dst: &mut [u8], at: usize, src: &[u8])
     requires { at + length src.now ≤ length dst.old }
     ensures { dst.new ≡ lay dst.old at src.now }
 {
-    dst[at..at + src.len()].copy_from_slice(src);
+    for i in 0..src.len() {
+        dst[at + i] = src[i];
+    }
 }
 
 // Two functions each way, and not one over the width: each is std's conversion of its own type, and u32 and u64 have no trait of that in common. std's

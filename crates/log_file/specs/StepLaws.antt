@@ -35,9 +35,16 @@ back (Place p) = refl
 pub reply_one : (a b : Reply) → given a ≡ given b → reply_values a ≡ reply_values b → a ≡ b
 reply_one a b k e = sym (back a) ∙ (λ i. back_from (k i) (e i)) ∙ back b
 
+-- a reply told with its kind
+abbrev pub replied_as : Reply → Kind × List ℕ
+replied_as a = (given a, reply_values a)
+
+pub replied-one : (a b : Reply) → replied_as a ≡ replied_as b → a ≡ b
+replied-one a b e = reply_one a b (ap (λ (p : Kind × List ℕ). p.0) e) (ap (λ (p : Kind × List ℕ). p.1) e)
+
 -- replies to one call that say the same are the same
-pub replied-one : (c : calls.Call) (a b : Reply) → given a ≡ asked c → given b ≡ asked c → reply_values a ≡ reply_values b → a ≡ b
-replied-one c a b g h e = reply_one a b (g ∙ sym h) e
+pub replied_to_one : (c : calls.Call) (a b : Reply) → given a ≡ asked c → given b ≡ asked c → reply_values a ≡ reply_values b → a ≡ b
+replied_to_one c a b g h e = reply_one a b (g ∙ sym h) e
 
 -- ---- one answer
 
@@ -50,6 +57,6 @@ pub step-one-answer : (w : LogFileWriter) (image staging : List ℕ) (call : Cal
 unfolding called
 step-one-answer w image staging call r r' v v' i i' s s' x y =
     let e =
-    one_result_of reply_values r r' (λ a b p q z. replied-one (call_of call) a b (kind_of r a p x.1) (kind_of r' b q y.1) z) _ _
+    one_result_of reply_values r r' (λ a b p q z. replied_to_one (call_of call) a b (kind_of r a p x.1) (kind_of r' b q y.1) z) _ _
     (call_no_nine (machine w image staging) (call_of call)) (ap (λ (c : Called). c.answer) x.0) (ap (λ (c : Called). c.answer) y.0) in
     same_by (x.0 ∙ sym y.0) r r' e

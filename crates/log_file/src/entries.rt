@@ -3,6 +3,7 @@
 
 ghost use Rattle.std.specs.Prelude.{OnErr};
 
+use crate::file::put;
 use crate::{LogFileWriter, Moment};
 use entry::{CHUNK, ChunkRecord, END_OF_ENTRY, EntryId, LogPosition, NEW_ENTRY, Refusal};
 
@@ -46,6 +47,7 @@ impl LogFileWriter {
     }
 
     /// Begins a chunk of so many bytes: 02 and the length. Refused with `OutOfRange`, `NotNow` unless in an entry with no chunk open, `NoRoom`.
+    #[inline(always)]
     pub fn begin_chunk(
         &mut self,
         image: &mut [u8],
@@ -63,8 +65,9 @@ impl LogFileWriter {
         if self.size < position + length as usize + 10 {
             return Err(Refusal::NoRoom);
         }
-        self.file
-            .write_both(image, staging, &[CHUNK], &lists::u32_bytes(length));
+        let mut file = self.file;
+        file.write_both(image, staging, &[CHUNK], &lists::u32_bytes(length));
+        self.file = file;
         self.moment = Moment::InChunk {
             id,
             start,
@@ -112,6 +115,7 @@ impl LogFileWriter {
     }
 
     /// Writes the CRC and reports position, CRC, length. Refused with `OutOfRange`, `NotNow` unless in a chunk, `BytesOwed`: the chunk stays open.
+    #[inline(always)]
     pub fn finish(&mut self, image: &mut [u8], staging: &mut [u8]) -> Result<ChunkRecord, Refusal>
         ensures allows { FinishAllows self.old image.old staging.old result self.new image.new staging.new }
         ensures refused { OnErr result (IsUnchanged self.old image.old staging.old self.new image.new staging.new) }
@@ -134,7 +138,9 @@ impl LogFileWriter {
             file_id: self.id,
             offset: (self.file.position + self.file.staged - length as usize - 5) as u64,
         };
-        self.file.write(image, staging, &lists::u32_bytes(crc));
+        let mut file = self.file;
+        put(&mut file, image, staging, &lists::u32_bytes(crc));
+        self.file = file;
         self.moment = Moment::InEntry { id, start };
         Ok(ChunkRecord {
             position,
@@ -145,6 +151,7 @@ impl LogFileWriter {
 
     /// Writes 03, and reports the entry's id and the logical position behind it. Refused with `OutOfRange`, `NotNow` unless in an entry with no chunk
     /// open.
+    #[inline(always)]
     pub fn commit(
         &mut self,
         image: &mut [u8],
@@ -158,13 +165,16 @@ impl LogFileWriter {
             return Err(Refusal::NotNow);
         };
         let position = self.file.position + self.file.staged + 1;
-        self.file.write(image, staging, &[END_OF_ENTRY]);
+        let mut file = self.file;
+        put(&mut file, image, staging, &[END_OF_ENTRY]);
+        self.file = file;
         self.last = Some(id);
         self.moment = Moment::Idle;
         Ok(CommittedEntry { id, position })
     }
 
     /// Goes back to the entry's start, also from inside a chunk. No byte changes. Refused with `OutOfRange`, `NotNow` when idle.
+    #[inline(always)]
     pub fn rollback(&mut self, image: &mut [u8], staging: &mut [u8]) -> Result<(), Refusal>
         ensures allows { RollbackAllows self.old image.old staging.old result self.new image.new staging.new }
         ensures refused { OnErr result (IsUnchanged self.old image.old staging.old self.new image.new staging.new) }

@@ -1,14 +1,24 @@
 //! The calls on the segment as a whole (okaywal's log_file.rs): recycle, flush, synchronize, seek, and the plain reads of a state.
 #![tactic(auto, unfolding(crate::specs::State::ruled, crate::specs::State::valid, crate::specs::Calls::checks, crate::specs::Calls::refusal, crate::specs::Calls::reports, crate::specs::Calls::writes, crate::specs::Calls::worked, crate::specs::Calls::moment_after, crate::specs::Calls::last_after, crate::specs::Calls::id_after, crate::specs::Calls::acted, crate::specs::Calls::called, buffered::specs::Staging::written_all, buffered::specs::Staging::back_to, crate::specs::Reads::read))]
 
-ghost use Rattle.std.specs.Prelude.{◌≡◌, ◌+◌, ◌≤◌, length, OnErr};
-ghost use Rattle.buffered.specs.Staging.{store, written_all, Room};
+ghost use Rattle.std.specs.Prelude.{ℕ, ◌≡◌, ◌+◌, ◌≤◌, length, OnErr};
+ghost use Rattle.buffered.specs.Staging.{store, written, written_all, Room};
 ghost use Rattle.log_file.specs.Calls.{heading};
 
 use crate::{LogFileWriter, Moment};
 use buffered::Buffered;
 use entry::{EntryId, Refusal};
 use std::io::SeekFrom;
+
+// One write, out of line as `write_both` is, so that the calls that make it are small enough to stand within the boundary's.
+#[inline(never)]
+pub(crate) fn put(file: &mut Buffered, image: &mut [u8], staging: &mut [u8], bytes: &[u8])
+    requires { Room (store image.old staging.old file.old) (length bytes.now) }
+    ensures written { store image.new staging.new file.new ≡ written (store image.old staging.old file.old) bytes.now }
+    ensures room { (n : ℕ) → Room (store image.old staging.old file.old) (length bytes.now + n) → Room (store image.new staging.new file.new) n }
+{
+    file.write(image, staging, bytes);
+}
 
 // The header in its three writes: the mark and version 0, the length byte, the version info. It stores without a test, as `head` does: their callers test,
 // and require nothing (`RecycleAllows`, `OpenAllows`).
@@ -48,6 +58,7 @@ impl LogFileWriter {
     }
 
     /// Staged bytes go to the image. Refused with `OutOfRange`.
+    #[inline(always)]
     pub fn flush(&mut self, image: &mut [u8], staging: &mut [u8]) -> Result<(), Refusal>
         ensures allows { FlushAllows self.old image.old staging.old result self.new image.new staging.new }
         ensures refused { OnErr result (IsUnchanged self.old image.old staging.old self.new image.new staging.new) }
@@ -59,6 +70,7 @@ impl LogFileWriter {
 
     /// Notes that everything below the file position is on the device, after a flush where target lies past that; nothing where so much as target is
     /// noted already. A target past the end is allowed. Refused with `OutOfRange`.
+    #[inline(always)]
     pub fn synchronize(
         &mut self,
         image: &mut [u8],

@@ -82,6 +82,7 @@ impl Moment {
     }
 
     // Whether an open entry or chunk can have begun where it says, at this logical position.
+    #[inline(always)]
     fn is_open_at(self, position: usize) -> bool
         ensures { result ≡ all (open_rules self position) }
     {

@@ -39,6 +39,7 @@ fn reply_words(reply: Reply<'_>) -> [u64; 4]
 
 // Words to a state, one call, a state to words where the call moved it: accepted, or refused at a cut or a wrong sum.
 #[tactic(auto, unfolding(segment_reader::specs::Calls::answer_of, segment_reader::specs::Calls::cut_number))]
+#[inline(always)]
 fn called<'a>(state: &mut [u64], image: &'a [u8], call: Call) -> Result<Reply<'a>, Refusal>
     ensures { CalledAllows (call_of call) state.old image.entry.now result state.new }
 {
@@ -58,6 +59,7 @@ fn are_lent(state: &[u64], answer: &[u64]) -> bool
 }
 
 // The same with an answer, of which nothing is stored where a slice is too short.
+#[inline(always)]
 fn answering(state: &mut [u64], image: &[u8], call: Call, answer: &mut [u64]) -> u64
     ensures { read result state.new answer.new ≡ crossed_by 4 (call_of call) state.old image.now answer.old }
 {
@@ -68,6 +70,7 @@ fn answering(state: &mut [u64], image: &[u8], call: Call, answer: &mut [u64]) ->
 }
 
 // The same for a call with no answer.
+#[inline(always)]
 fn carry_out(state: &mut [u64], image: &[u8], call: Call) -> u64
     ensures { read result state.new [] ≡ crossed_bare (call_of call) state.old image.now }
 {

@@ -37,6 +37,14 @@ pub(crate) fn tell(told: Result<[u64; 4], Refusal>, answer: &mut [u64]) -> u64
     ensures number { result ≡ number_told told }
     ensures words { answer.new ≡ lay answer.old 0 (words_told told) }
 {
-    put(answer, &told.unwrap_or([0; 4]));
-    number_of(told)
+    match told {
+        Ok(words) => {
+            put(answer, &words);
+            0
+        }
+        Err(refusal) => {
+            put(answer, &[0; 4]);
+            refusal.number().into()
+        }
+    }
 }

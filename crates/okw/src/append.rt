@@ -1,21 +1,23 @@
 //! `okw new` and `okw append`: the segment is made or added to in memory, and goes to its file whole.
-ghost use Rattle.std.specs.Prelude.{◌≡◌, IfOk, vec_len};
-
-use crate::arguments::{Argument, Word};
+use crate::arguments::Argument;
 use crate::entries::Entries;
-use crate::files;
 use crate::files::NewFile;
 use crate::outcome::{Failure, Refused};
-use entry::{EntryId, LARGEST_IMAGE, Refusal};
+use crate::{arguments, files};
+use entry::{EntryId, Refusal};
 use log_file::LogFileWriter;
 use log_file::opening::Terms;
 use log_file::segment::Segment;
 use segment_reader::{WholeEntry, survey};
 use std::fs::File;
-use std::rt::Files;
+use std::ops::Range;
+use std::rt::{Env, Files};
 
 /// The longest TEXT.
 const LONGEST: usize = 131_072;
+
+/// The longest version info.
+const MOST_INFO: usize = 255;
 
 /// A writer for the segment in the image.
 fn opened<'a>(
@@ -34,14 +36,9 @@ fn opened<'a>(
 
 // ---- new
 
-/// The bytes of a fresh segment.
-fn fresh<R: AllocGlobal>(rt: &R, id: u64, size: u64) -> Result<Vec<u8>, Failure>
-    ensures { IfOk result (λ bytes. vec_len bytes ≡ size) }
-{
-    if size > LARGEST_IMAGE as u64 {
-        return Err(Failure::TooLarge);
-    }
-    let mut image = vec![in rt.alloc(); 0u8; size as usize]?;
+/// The bytes of a fresh segment, at the start of the image.
+fn fresh(image: &mut [u8], id: u64, size: u64) -> Result<&[u8], Failure> {
+    let image = image.get_mut(..size as usize).ok_or(Failure::TooLarge)?;
     let terms = Terms {
         id,
         last: None,
@@ -50,20 +47,21 @@ fn fresh<R: AllocGlobal>(rt: &R, id: u64, size: u64) -> Result<Vec<u8>, Failure>
         file_length: 0,
         preallocate: size,
     };
-    opened(terms, image.as_mut_slice(), &mut [0; 64])?;
+    opened(terms, image, &mut [0; 64])?;
     Ok(image)
 }
 
-pub(crate) fn new<'a>(
-    rt: &(impl Files<File = File> + AllocGlobal),
-    file: Argument<'a>,
-    id: Argument<'a>,
-    size: Argument<'a>,
-) -> Result<(), Refused<'a>> {
-    let segment = id.number()?;
-    let bytes = size.number()?;
-    let image = fresh(rt, segment, bytes).map_err(|failure| size.refused(failure))?;
-    files::create(rt, file, image.as_slice()).map_err(|failure| file.refused(failure))
+pub(crate) fn new(
+    rt: &(impl Env + Files<File = File>),
+    image: &mut [u8],
+    file: Argument,
+    id: Argument,
+    size: Argument,
+) -> Result<(), Refused> {
+    let segment = id.number(rt)?;
+    let bytes = size.number(rt)?;
+    let image = fresh(image, segment, bytes).map_err(|failure| size.refused(failure))?;
+    files::create(rt, file, image).map_err(|failure| file.refused(failure))
 }
 
 // ---- append
@@ -101,6 +99,19 @@ fn valid_until(image: &[u8], id: u64) -> Result<u64, Failure> {
     Ok(valid_until)
 }
 
+/// A copy of the version info, since the image that holds it is written while it is read.
+// a room of a fixed size, filled to a length: on the heap there may be no memory for it
+fn version_info<'a>(
+    image: &[u8],
+    id: u64,
+    room: &'a mut [u8; MOST_INFO],
+) -> Result<&'a [u8], Refusal> {
+    let info = Entries::open(image, id)?.version_info();
+    let length = info.len().min(MOST_INFO);
+    room[..length].copy_from_slice(&info[..length]);
+    Ok(&room[..length])
+}
+
 fn put_chunk(segment: &mut Segment<'_>, text: &[u8]) -> Result<(), Failure> {
     if text.len() > LONGEST {
         return Err(Failure::TooLong);
@@ -112,10 +123,19 @@ fn put_chunk(segment: &mut Segment<'_>, text: &[u8]) -> Result<(), Failure> {
 }
 
 /// Writes, commits and flushes an entry with a chunk for each text.
-fn put_entry(segment: &mut Segment<'_>, id: EntryId, texts: &[Word]) -> Result<(), Failure> {
+fn put_entry(
+    rt: &impl Env,
+    segment: &mut Segment<'_>,
+    id: EntryId,
+    texts: &Range<usize>,
+) -> Result<(), Failure> {
     segment.begin_entry(id)?;
-    for text in texts {
-        put_chunk(segment, text.bytes())?;
+    // one room for all texts: on the heap there may be no memory for them, and a room for each would be cleared each time
+    let mut room = [0; LONGEST];
+    // its ends: the range is walked twice, and a clone of it can fail
+    for place in texts.start..texts.end {
+        let length = rt.arg(place, &mut room).map_err(|_| Failure::TooLong)?;
+        put_chunk(segment, &room[..length])?;
     }
     segment.commit()?;
     segment.flush()?;
@@ -123,44 +143,54 @@ fn put_entry(segment: &mut Segment<'_>, id: EntryId, texts: &[Word]) -> Result<(
 }
 
 /// An entry to append to the segment in a file.
-#[derive(Clone, Copy)]
-struct Addition<'a> {
-    file: Argument<'a>,
+#[derive(Clone, Drop)]
+struct Addition {
+    file: Argument,
     id: u64,
     entry: EntryId,
-    texts: &'a [Word],
+    texts: Range<usize>,
 }
 
-impl Addition<'_> {
+impl Addition {
     /// The file's bytes with the entry in them, in memory: one entry more behind the valid bytes, in a file that keeps its size. The file is read as at
     /// power-up.
-    fn in_memory<R: Files<File = File> + AllocGlobal>(&self, rt: &R) -> Result<Vec<u8>, Failure> {
-        let mut image = files::load(rt, self.file, true)?;
+    fn in_memory<'a>(
+        &self,
+        rt: &(impl Env + Files<File = File>),
+        image: &'a mut [u8],
+    ) -> Result<&'a [u8], Failure> {
+        let image = files::load(rt, self.file, image, true)?;
         let size = image.len() as u64;
-        let validated_length = valid_until(image.as_slice(), self.id)?;
-        let info = Entries::open(image.as_slice(), self.id)?.version_info();
-        let info = Vec::from_slice(rt.alloc(), info)?;
+        let validated_length = valid_until(image, self.id)?;
+        let mut info = [0; MOST_INFO];
+        let version_info = version_info(image, self.id, &mut info)?;
         let terms = Terms {
             id: self.id,
             last: None,
-            version_info: info.as_slice(),
+            version_info,
             validated_length,
             file_length: size,
             preallocate: size,
         };
         // of a fixed size, as it was: what is stored when follows from it
         let mut staging = [0; 4096];
-        let mut segment = opened(terms, image.as_mut_slice(), &mut staging)?;
-        put_entry(&mut segment, self.entry, self.texts)?;
+        let mut segment = opened(terms, image, &mut staging)?;
+        put_entry(rt, &mut segment, self.entry, &self.texts)?;
         Ok(image)
     }
 
     /// What is refused is refused before anything is made; what is not is done once more with the new file there, so that the file stays as it is read then.
-    fn append<R: Files<File = File> + AllocGlobal>(&self, rt: &R) -> Result<(), Failure> {
-        self.in_memory(rt)?;
-        let new = NewFile::make(rt, self.file.path()?)?;
-        match self.in_memory(rt) {
-            Ok(image) => new.replace(rt, image.as_slice()),
+    fn append(
+        &self,
+        rt: &(impl Env + Files<File = File>),
+        image: &mut [u8],
+    ) -> Result<(), Failure> {
+        self.in_memory(rt, image)?;
+        let mut room = [0; arguments::LONGEST];
+        let mut room_beside = [0; arguments::LONGEST];
+        let new = NewFile::make(rt, self.file.path(rt, &mut room)?, &mut room_beside)?;
+        match self.in_memory(rt, image) {
+            Ok(bytes) => new.replace(rt, bytes),
             Err(failure) => {
                 new.remove(rt);
                 Err(failure)
@@ -169,20 +199,21 @@ impl Addition<'_> {
     }
 }
 
-pub(crate) fn append<'a>(
-    rt: &(impl Files<File = File> + AllocGlobal),
-    file: Argument<'a>,
-    id: Argument<'a>,
-    entry: Argument<'a>,
-    texts: &'a [Word],
-) -> Result<(), Refused<'a>> {
+pub(crate) fn append(
+    rt: &(impl Env + Files<File = File>),
+    image: &mut [u8],
+    file: Argument,
+    id: Argument,
+    entry: Argument,
+    texts: Range<usize>,
+) -> Result<(), Refused> {
     let addition = Addition {
         file,
-        id: id.number()?,
-        entry: entry.number()?,
+        id: id.number(rt)?,
+        entry: entry.number(rt)?,
         texts,
     };
-    match addition.append(rt) {
+    match addition.append(rt, image) {
         Ok(()) => Ok(()),
         Err(Failure::Refused(Refusal::LowId)) => {
             Err(entry.refused(Failure::Refused(Refusal::LowId)))

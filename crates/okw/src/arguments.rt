@@ -2,109 +2,86 @@
 use crate::outcome::{Failure, Refused};
 use std::env::FillError;
 use std::io::{ErrorKind, Write};
+use std::ops::Range;
 use std::rt::Env;
 use std::{io, str};
 
 /// The longest name and the longest number that are looked at.
-const LONGEST: usize = 4096;
+pub(crate) const LONGEST: usize = 4096;
 
-/// A word of the command line, any bytes, and its place there.
-// Drop alone: what owns memory has no copy
-#[derive(Drop)]
-pub struct Word {
-    place: usize,
-    bytes: Vec<u8>,
-}
-
-/// A word in its role: FILE, ID, ENTRY, SIZE or ENTRY_ID, or nothing for the command itself.
+/// A place on the command line, and the role of the word there: FILE, ID, ENTRY, SIZE or ENTRY_ID, with a blank behind it, or nothing for the command itself.
+// no bytes: they stay where the system has them, and are copied to a room of a fixed size where they are wanted. On the heap they took memory for each word,
+// which may not be there
 #[derive(Clone, Copy)]
-pub struct Argument<'a> {
-    role: &'a str,
+pub struct Argument {
+    role: &'static str,
     place: usize,
-    bytes: &'a [u8],
 }
 
-pub enum Command<'a> {
+/// What is asked for. The segments and the texts are places: a FILE and its ID take two.
+pub enum Command {
     List {
-        segments: &'a [Word],
+        segments: Range<usize>,
     },
     Show {
-        file: Argument<'a>,
-        id: Argument<'a>,
-        entry: Argument<'a>,
+        file: Argument,
+        id: Argument,
+        entry: Argument,
     },
     New {
-        file: Argument<'a>,
-        id: Argument<'a>,
-        size: Argument<'a>,
+        file: Argument,
+        id: Argument,
+        size: Argument,
     },
     Append {
-        file: Argument<'a>,
-        id: Argument<'a>,
-        entry: Argument<'a>,
-        texts: &'a [Word],
+        file: Argument,
+        id: Argument,
+        entry: Argument,
+        texts: Range<usize>,
     },
 }
 
-/// The word at this place, in a room that is doubled until the word fits.
-fn read<R: Env + AllocGlobal>(rt: &R, place: usize) -> io::Result<Option<Word>> {
-    for power in 6u32..32 {
-        let mut bytes = vec![in rt.alloc(); 0u8; 1usize << power]?;
-        match rt.arg(place, bytes.as_mut_slice()) {
-            Ok(length) => {
-                bytes.truncate(length);
-                return Ok(Some(Word { place, bytes }));
-            }
-            Err(FillError::NotPresent) => return Ok(None),
-            Err(FillError::TooLong) => {}
-        }
-    }
-    Err(io::Error::from(ErrorKind::ArgumentListTooLong))
-}
-
-/// All words, the program's name among them.
-pub(crate) fn words<R: Env + AllocGlobal>(rt: &R) -> io::Result<Vec<Word>> {
-    let mut words = Vec::new(rt.alloc());
+/// How many words there are, the program's name among them.
+fn count(rt: &impl Env) -> usize {
     for place in 0..usize::MAX {
-        match read(rt, place)? {
-            Some(word) => words.push(word)?,
-            None => break,
+        if let Err(FillError::NotPresent) = rt.arg(place, &mut []) {
+            return place;
         }
     }
-    Ok(words)
+    usize::MAX
 }
 
-impl Word {
-    pub(crate) fn bytes(&self) -> &[u8] {
-        self.bytes.as_slice()
-    }
-
-    pub(crate) fn argument<'a>(&'a self, role: &'a str) -> Argument<'a> {
-        Argument {
-            role,
-            place: self.place,
-            bytes: self.bytes.as_slice(),
-        }
-    }
+/// What is no path.
+fn no_path(error: FillError) -> Failure {
+    Failure::System(match error {
+        FillError::NotPresent => ErrorKind::InvalidInput,
+        FillError::TooLong => ErrorKind::InvalidFilename,
+    })
 }
 
-impl<'a> Argument<'a> {
+impl Argument {
+    pub(crate) fn new(role: &'static str, place: usize) -> Argument {
+        Argument { role, place }
+    }
+
+    /// The word; none where it is missing or longer than the room.
+    fn word<'a>(self, rt: &impl Env, room: &'a mut [u8]) -> &'a [u8] {
+        let length = rt.arg(self.place, room).unwrap_or(0);
+        &room[..length]
+    }
+
     /// The name of a file. One that is not UTF-8 is none that std can open.
-    pub(crate) fn path(self) -> Result<&'a str, Failure> {
-        if self.bytes.len() > LONGEST {
-            return Err(Failure::System(ErrorKind::InvalidFilename));
-        }
-        str::from_utf8(self.bytes).map_err(|_| Failure::System(ErrorKind::InvalidInput))
+    pub(crate) fn path<'a>(self, rt: &impl Env, room: &'a mut [u8]) -> Result<&'a str, Failure> {
+        let length = rt.arg(self.place, room).map_err(no_path)?;
+        str::from_utf8(&room[..length]).map_err(|_| Failure::System(ErrorKind::InvalidInput))
     }
 
-    pub(crate) fn number(self) -> Result<u64, Refused<'a>> {
-        if self.bytes.len() > LONGEST {
-            return Err(self.refused(Failure::NotNumber));
-        }
-        text::decimal(self.bytes).ok_or(self.refused(Failure::NotNumber))
+    pub(crate) fn number(self, rt: &impl Env) -> Result<u64, Refused> {
+        let mut room = [0; LONGEST];
+        text::decimal(self.word(rt, &mut room)).ok_or(self.refused(Failure::NotNumber))
     }
 
-    pub(crate) fn refused(self, failure: Failure) -> Refused<'a> {
+    pub(crate) fn refused(self, failure: Failure) -> Refused {
         Refused {
             argument: self,
             failure,
@@ -113,11 +90,13 @@ impl<'a> Argument<'a> {
 
     // By hand, with `put_in_role` and `Refused::put`: a word may be no UTF-8, and `Display` writes text.
     /// As it is, but for control characters: these as `\x0a`, so that a word stays on its line. Its place where it is empty, missing or too long.
-    pub(crate) fn put(self, out: &mut impl Write) -> io::Result<()> {
-        if self.bytes.is_empty() || self.bytes.len() > LONGEST {
+    pub(crate) fn put(self, rt: &impl Env, out: &mut impl Write) -> io::Result<()> {
+        let mut room = [0; LONGEST];
+        let word = self.word(rt, &mut room);
+        if word.is_empty() {
             return write!(out, "argument {}", self.place);
         }
-        for byte in self.bytes {
+        for byte in word {
             if byte.is_ascii_control() {
                 write!(out, "\\x{byte:02x}")?;
             } else {
@@ -128,11 +107,9 @@ impl<'a> Argument<'a> {
     }
 
     /// The role before it.
-    pub(crate) fn put_in_role(self, out: &mut impl Write) -> io::Result<()> {
-        if !self.role.is_empty() {
-            write!(out, "{} ", self.role)?;
-        }
-        self.put(out)
+    pub(crate) fn put_in_role(self, rt: &impl Env, out: &mut impl Write) -> io::Result<()> {
+        out.write_all(self.role.as_bytes())?;
+        self.put(rt, out)
     }
 }
 
@@ -147,37 +124,35 @@ fn expected(command: &str) -> &'static str {
     }
 }
 
-impl<'a> Command<'a> {
+impl Command {
     /// The command that the first word names, where as many words follow as it expects.
-    pub(crate) fn asked(words: &'a [Word]) -> Result<Command<'a>, Refused<'a>> {
-        let [_, command, rest @ ..] = words else {
-            let missing = Argument {
-                role: "",
-                place: 1,
-                bytes: &[],
-            };
-            return Err(missing.refused(Failure::Usage(expected(""))));
-        };
-        let name = str::from_utf8(command.bytes()).unwrap_or("");
-        match (name, rest) {
-            ("list", [_, _, ..]) if rest.len() % 2 == 0 => Ok(Command::List { segments: rest }),
-            ("show", [file, id, entry]) => Ok(Command::Show {
-                file: file.argument("FILE"),
-                id: id.argument("ID"),
-                entry: entry.argument("ENTRY"),
+    pub(crate) fn asked(rt: &impl Env) -> Result<Command, Refused> {
+        let command = Argument::new("", 1);
+        // the longest name of a command has six bytes
+        let mut room = [0; 8];
+        let name = str::from_utf8(command.word(rt, &mut room)).unwrap_or("");
+        let count = count(rt);
+        let file = Argument::new("FILE ", 2);
+        let id = Argument::new("ID ", 3);
+        match (name, count) {
+            ("list", 4..) if count % 2 == 0 => Ok(Command::List { segments: 2..count }),
+            ("show", 5) => Ok(Command::Show {
+                file,
+                id,
+                entry: Argument::new("ENTRY ", 4),
             }),
-            ("new", [file, id, size]) => Ok(Command::New {
-                file: file.argument("FILE"),
-                id: id.argument("ID"),
-                size: size.argument("SIZE"),
+            ("new", 5) => Ok(Command::New {
+                file,
+                id,
+                size: Argument::new("SIZE ", 4),
             }),
-            ("append", [file, id, entry, texts @ ..]) if !texts.is_empty() => Ok(Command::Append {
-                file: file.argument("FILE"),
-                id: id.argument("ID"),
-                entry: entry.argument("ENTRY_ID"),
-                texts,
+            ("append", 6..) => Ok(Command::Append {
+                file,
+                id,
+                entry: Argument::new("ENTRY_ID ", 4),
+                texts: 5..count,
             }),
-            _ => Err(command.argument("").refused(Failure::Usage(expected(name)))),
+            _ => Err(command.refused(Failure::Usage(expected(name)))),
         }
     }
 }

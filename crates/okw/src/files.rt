@@ -1,16 +1,18 @@
 //! Segment files: read whole, written whole.
-ghost use Rattle.std.specs.Prelude.{◌≤◌, IfOk, vec_len};
+ghost use Rattle.std.specs.Prelude.{◌≤◌, length};
 
 use crate::arguments::Argument;
-use crate::modes;
 use crate::outcome::Failure;
-use entry::LARGEST_IMAGE;
+use crate::{arguments, modes};
 use std::fs::{File, OpenOptions};
 use std::io::{ErrorKind, Read, Write};
-use std::rt::Files;
-use std::{fs, io};
+use std::rt::{Env, Files};
+use std::{fs, io, str};
 
-/// The longest name that has room for `.new` behind it.
+/// What is behind the name of the new file beside another.
+const NEW: &str = ".new";
+
+/// The longest name that has room for it.
 const LONGEST: usize = 4091;
 
 // ---- reading
@@ -23,23 +25,36 @@ fn open(rt: &impl Files<File = File>, path: &str, to_replace: bool) -> io::Resul
         .open(rt, path)
 }
 
-/// The bytes of the file that the argument names, to its end: one byte more than a segment may have is read too.
-pub(crate) fn load<R: Files<File = File> + AllocGlobal>(
-    rt: &R,
-    file: Argument<'_>,
-    to_replace: bool,
-) -> Result<Vec<u8>, Failure>
-    ensures { IfOk result (λ bytes. vec_len bytes ≤ 1048576) }
+/// Reads until the image is full, the file ends or a read fails, and answers the number of bytes.
+// by hand: `read_to_end` reads onto the heap, where there may be no memory, and goes on after a read that a signal interrupted, which has failed here
+fn read_full(file: &mut File, image: &mut [u8]) -> usize
+    ensures { result ≤ length image.new }
 {
-    let mut file = open(rt, file.path()?, to_replace)?;
-    let mut bytes = Vec::new(rt.alloc());
-    (&mut file)
-        .take(LARGEST_IMAGE as u64 + 1)
-        .read_to_end(&mut bytes)?;
-    if bytes.len() > LARGEST_IMAGE {
+    let mut size = 0;
+    while size < image.len() {
+        match file.read(&mut image[size..]) {
+            Ok(got) if got > 0 => size += got,
+            _ => break,
+        }
+    }
+    size
+}
+
+/// The bytes of the file that the argument names, to its end, at the start of the image: one more read must find nothing, so a file that is longer, or
+/// that cannot be read on, is not taken for a shorter one.
+pub(crate) fn load<'a>(
+    rt: &(impl Env + Files<File = File>),
+    file: Argument,
+    image: &'a mut [u8],
+    to_replace: bool,
+) -> Result<&'a mut [u8], Failure> {
+    let mut room = [0; arguments::LONGEST];
+    let mut file = open(rt, file.path(rt, &mut room)?, to_replace)?;
+    let size = read_full(&mut file, image);
+    if file.read(&mut [0])? > 0 {
         return Err(Failure::TooLarge);
     }
-    Ok(bytes)
+    Ok(&mut image[..size])
 }
 
 // ---- writing
@@ -70,11 +85,12 @@ fn synchronize_folder(rt: &impl Files<File = File>, path: &str) {
 
 /// Makes the file that the argument names, with these bytes, synchronized; it is removed where it cannot be written whole.
 pub(crate) fn create(
-    rt: &impl Files<File = File>,
-    file: Argument<'_>,
+    rt: &(impl Env + Files<File = File>),
+    file: Argument,
     bytes: &[u8],
 ) -> Result<(), Failure> {
-    let path = file.path()?;
+    let mut room = [0; arguments::LONGEST];
+    let path = file.path(rt, &mut room)?;
     let mut new = create_new(rt, path)?;
     let written = put_whole(&mut new, bytes);
     drop(new);
@@ -91,8 +107,20 @@ pub(crate) fn create(
 /// The new file beside the one that is to be replaced, open to be written. It is linear: each path must end in `replace` or `remove`.
 pub struct NewFile<'a> {
     file: File,
-    name: String,
+    name: &'a str,
     path: &'a str,
+}
+
+/// The path with `.new` behind it, in the room.
+// a room of a fixed size, filled to a length: on the heap there may be no memory for it
+fn name_beside<'a>(path: &str, room: &'a mut [u8; arguments::LONGEST]) -> Result<&'a str, Failure> {
+    if path.len() > LONGEST {
+        return Err(Failure::Beside(ErrorKind::InvalidFilename));
+    }
+    let end = path.len() + NEW.len();
+    room[..path.len()].copy_from_slice(path.as_bytes());
+    room[path.len()..end].copy_from_slice(NEW.as_bytes());
+    str::from_utf8(&room[..end]).map_err(|_| Failure::Beside(ErrorKind::InvalidInput))
 }
 
 fn beside(error: io::Error) -> Failure {
@@ -117,18 +145,16 @@ fn put_like(
 
 impl<'a> NewFile<'a> {
     /// Makes the new file beside the one at the path. While it is there no other run makes one, so no other run replaces the file.
-    pub(crate) fn make<R: Files<File = File> + AllocGlobal>(
-        rt: &R,
+    pub(crate) fn make(
+        rt: &impl Files<File = File>,
         path: &'a str,
+        room: &'a mut [u8; arguments::LONGEST],
     ) -> Result<NewFile<'a>, Failure> {
-        if path.len() > LONGEST {
-            return Err(Failure::Beside(ErrorKind::InvalidFilename));
-        }
+        let name = name_beside(path, room)?;
         if is_link(rt, path) {
             return Err(Failure::Link);
         }
-        let name = format!(in rt.alloc(); "{path}.new")?;
-        let file = create_new(rt, name.as_str()).map_err(beside)?;
+        let file = create_new(rt, name).map_err(beside)?;
         Ok(NewFile { file, name, path })
     }
 
@@ -139,7 +165,7 @@ impl<'a> NewFile<'a> {
             path: _,
         } = self;
         drop(file);
-        let _ = fs::remove_file(rt, name.as_str());
+        let _ = fs::remove_file(rt, name);
     }
 
     /// Writes it whole, synchronizes it, and renames it over the one at the path.
@@ -152,11 +178,11 @@ impl<'a> NewFile<'a> {
         let written = put_like(rt, path, &mut file, bytes);
         drop(file);
         let replaced = match written {
-            Ok(()) => fs::rename(rt, name.as_str(), path).map_err(Failure::from),
+            Ok(()) => fs::rename(rt, name, path).map_err(Failure::from),
             Err(failure) => Err(failure),
         };
         if replaced.is_err() {
-            let _ = fs::remove_file(rt, name.as_str());
+            let _ = fs::remove_file(rt, name);
         } else {
             synchronize_folder(rt, path);
         }

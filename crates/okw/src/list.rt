@@ -1,5 +1,5 @@
 //! `okw list` and `okw show`.
-use crate::arguments::{Argument, Word};
+use crate::arguments::Argument;
 use crate::chunks::Count;
 use crate::entries::{Entries, Entry};
 use crate::outcome::{Ended, Failure, Numbered};
@@ -8,7 +8,8 @@ use entry::{EntryId, Refusal};
 use std::fs::File;
 use std::io;
 use std::io::Write;
-use std::rt::Files;
+use std::ops::Range;
+use std::rt::{Env, Files};
 
 fn put_info(out: &mut impl Write, info: &[u8]) -> io::Result<()> {
     write!(out, "version info, {}", Count(info.len() as u64, "byte"))?;
@@ -77,52 +78,53 @@ fn list_segment(out: &mut impl Write, image: &[u8], id: u64) -> io::Result<Resul
 }
 
 /// The beginning of a file's line. It comes behind the reading: where output goes to that very file, it has not grown by then.
-fn put_head(out: &mut impl Write, file: Argument<'_>) -> io::Result<()> {
+fn put_head(rt: &impl Env, out: &mut impl Write, file: Argument) -> io::Result<()> {
     write!(out, "segment ")?;
-    file.put(out)
+    file.put(rt, out)
 }
 
 /// The segment in the file, or why it could not be read, in its place among the others.
-fn list_file<'a>(
-    rt: &(impl Files<File = File> + AllocGlobal),
+fn list_file(
+    rt: &(impl Env + Files<File = File>),
     out: &mut impl Write,
-    file: Argument<'a>,
-    id: Argument<'a>,
-) -> Result<(), Ended<'a>> {
-    let number = match id.number() {
+    image: &mut [u8],
+    file: Argument,
+    id: Argument,
+) -> Result<(), Ended> {
+    let number = match id.number(rt) {
         Ok(number) => number,
         Err(refused) => {
-            put_head(out, file)?;
+            put_head(rt, out, file)?;
             writeln!(out, ": its ID is no number")?;
             return Err(Ended::from(refused));
         }
     };
-    let image = match files::load(rt, file, false) {
+    let image = match files::load(rt, file, image, false) {
         Ok(image) => image,
         Err(failure) => {
-            put_head(out, file)?;
+            put_head(rt, out, file)?;
             writeln!(out, ": {failure}")?;
             return Err(Ended::from(file.refused(failure)));
         }
     };
-    put_head(out, file)?;
+    put_head(rt, out, file)?;
     writeln!(out, ", id {number}, {}", Count(image.len() as u64, "byte"))?;
-    let listed = list_segment(out, image.as_slice(), number)?;
+    let listed = list_segment(out, image, number)?;
     Ok(listed.map_err(|refusal| file.refused(Failure::Refused(refusal)))?)
 }
 
 /// Each file with its id; the first refusal of them all.
-pub(crate) fn list<'a>(
-    rt: &(impl Files<File = File> + AllocGlobal),
+pub(crate) fn list(
+    rt: &(impl Env + Files<File = File>),
     out: &mut impl Write,
-    segments: &'a [Word],
-) -> Result<(), Ended<'a>> {
+    image: &mut [u8],
+    segments: Range<usize>,
+) -> Result<(), Ended> {
     let mut first = Ok(());
-    for segment in segments.chunks_exact(2) {
-        let [file, id] = segment else {
-            continue;
-        };
-        match list_file(rt, out, file.argument("FILE"), id.argument("ID")) {
+    for place in segments.step_by(2) {
+        let file = Argument::new("FILE ", place);
+        let id = Argument::new("ID ", place.saturating_add(1));
+        match list_file(rt, out, image, file, id) {
             Ok(()) => {}
             Err(Ended::Refused(refused)) => first = first.and(Err(refused)),
             Err(Ended::Output(error)) => return Err(Ended::Output(error)),
@@ -149,19 +151,20 @@ fn show_entries(
     Ok(shown)
 }
 
-pub(crate) fn show<'a>(
-    rt: &(impl Files<File = File> + AllocGlobal),
+pub(crate) fn show(
+    rt: &(impl Env + Files<File = File>),
     out: &mut impl Write,
-    file: Argument<'a>,
-    id: Argument<'a>,
-    entry: Argument<'a>,
-) -> Result<(), Ended<'a>> {
-    let segment = id.number()?;
-    let wanted = entry.number()?;
-    let image = files::load(rt, file, false).map_err(|failure| file.refused(failure))?;
-    let entries = Entries::open(image.as_slice(), segment).map_err(|refusal| file.refused(
-        Failure::Refused(refusal),
-    ))?;
+    image: &mut [u8],
+    file: Argument,
+    id: Argument,
+    entry: Argument,
+) -> Result<(), Ended> {
+    let segment = id.number(rt)?;
+    let wanted = entry.number(rt)?;
+    let image = files::load(rt, file, image, false).map_err(|failure| file.refused(failure))?;
+    let entries = Entries::open(image, segment).map_err(|refusal| file.refused(Failure::Refused(
+        refusal,
+    )))?;
     match show_entries(out, entries, wanted)? {
         Some(shown) => Ok(shown.map_err(|refusal| file.refused(Failure::Refused(refusal)))?),
         None => Err(Ended::from(entry.refused(Failure::NoEntry))),

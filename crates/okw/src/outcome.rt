@@ -1,8 +1,8 @@
 //! How a run ended, and how that is said.
 use crate::arguments::Argument;
 use entry::{LARGEST_IMAGE, Refusal};
-use std::alloc::AllocError;
 use std::io::{ErrorKind, Write};
+use std::rt::Env;
 use std::{fmt, io};
 
 /// The number of a refusal and its meaning, as `10 (stored CRC differs, in reading a whole entry)`.
@@ -113,24 +113,18 @@ impl From<io::Error> for Failure {
     }
 }
 
-impl From<AllocError> for Failure {
-    fn from(_: AllocError) -> Failure {
-        Failure::System(ErrorKind::OutOfMemory)
-    }
-}
-
 /// A failure, and the argument that it is about.
 #[derive(Clone, Copy)]
-pub struct Refused<'a> {
-    pub argument: Argument<'a>,
+pub struct Refused {
+    pub argument: Argument,
     pub failure: Failure,
 }
 
-impl Refused<'_> {
+impl Refused {
     /// The last line of a refused run.
-    pub(crate) fn put(&self, out: &mut impl Write) -> io::Result<()> {
+    pub(crate) fn put(&self, rt: &impl Env, out: &mut impl Write) -> io::Result<()> {
         write!(out, "refused: ")?;
-        self.argument.put_in_role(out)?;
+        self.argument.put_in_role(rt, out)?;
         writeln!(out, ": {}", self.failure)
     }
 }
@@ -138,19 +132,19 @@ impl Refused<'_> {
 /// What ends a run before it is done: a refusal, or an output that takes no more.
 // no Result: both are failures. Drop alone: an error of std's has no copy
 #[derive(Drop)]
-pub enum Ended<'a> {
-    Refused(Refused<'a>),
+pub enum Ended {
+    Refused(Refused),
     Output(io::Error),
 }
 
-impl<'a> From<Refused<'a>> for Ended<'a> {
-    fn from(refused: Refused<'a>) -> Ended<'a> {
+impl From<Refused> for Ended {
+    fn from(refused: Refused) -> Ended {
         Ended::Refused(refused)
     }
 }
 
-impl From<io::Error> for Ended<'_> {
-    fn from(error: io::Error) -> Self {
+impl From<io::Error> for Ended {
+    fn from(error: io::Error) -> Ended {
         Ended::Output(error)
     }
 }

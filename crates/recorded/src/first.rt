@@ -41,8 +41,11 @@ fn put_first(out: &mut impl Write, first: FirstWhole) -> io::Result<()> {
 /// The bytes asked for, the number of the CRC's check and its word.
 fn put_bytes(out: &mut impl Write, image: &[u8], id: u64, asked: u64) -> io::Result<()> {
     words::put_bytes(out, held::first_bytes(image, id, asked))?;
-    match held::first_crc(image, id) {
-        Ok(is_right) => write!(out, " 0 {}", u64::from(is_right)),
-        Err(refusal) => write!(out, " {} 0", refusal.number()),
-    }
+    let is_right = held::first_crc(image, id);
+    write!(
+        out,
+        " {} {}",
+        words::number_of(is_right),
+        u64::from(is_right.unwrap_or(false))
+    )
 }

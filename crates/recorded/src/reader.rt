@@ -9,7 +9,8 @@ use std::io::Write;
 
 /// Answers the line, if it is one of a reader.
 pub(crate) fn line(out: &mut impl Write, desk: &mut Desk<'_>, line: &[u8]) -> io::Result<bool> {
-    if let b"reader" = text::word(line, 0) {
+    // one test by itself: an opening is no `Call`, of which `called` tells by one `match`
+    if text::same(text::word(line, 0), b"reader") {
         open(out, desk, line)?;
         return Ok(true);
     }

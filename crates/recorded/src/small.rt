@@ -22,10 +22,8 @@ fn put(out: &mut impl Write, line: &[u8]) -> io::Result<()> {
         offset: words::number(line, 2),
     };
     let mut bytes = [0; 16];
-    match position.serialize_to(&mut bytes) {
-        Ok(()) => write!(out, "0 ")?,
-        Err(refusal) => write!(out, "{} ", refusal.number())?,
-    }
+    let stored = position.serialize_to(&mut bytes);
+    write!(out, "{} ", words::number_of(stored))?;
     words::put_bytes(out, &bytes)
 }
 
@@ -33,10 +31,18 @@ fn put(out: &mut impl Write, line: &[u8]) -> io::Result<()> {
 fn get(out: &mut impl Write, line: &[u8]) -> io::Result<()> {
     let mut room = [0; 32];
     let count = words::bytes(line, 1, &mut room);
-    match LogPosition::deserialize_from(text::first(&room, count)) {
-        Ok(position) => write!(out, "0 {} {}", position.file_id, position.offset),
-        Err(refusal) => write!(out, "{} 0 0", refusal.number()),
-    }
+    let read = LogPosition::deserialize_from(text::first(&room, count));
+    let position = read.unwrap_or(LogPosition {
+        file_id: 0,
+        offset: 0,
+    });
+    write!(
+        out,
+        "{} {} {}",
+        words::number_of(read),
+        position.file_id,
+        position.offset
+    )
 }
 
 /// A finished sum, continued over bytes.

@@ -26,15 +26,18 @@ pub(crate) fn bytes(line: &[u8], k: usize, room: &mut [u8]) -> usize {
     text::unhex(text::word(line, k), room)
 }
 
-/// The number of refusal, 0 where there is none, and four words: for any answer, since the recorded lines hold them so.
-pub(crate) fn put(out: &mut impl Write, answer: Result<[u64; 4], Refusal>) -> io::Result<()> {
+/// The number of refusal, 0 where there is none.
+pub(crate) fn number_of<T: Copy>(answer: Result<T, Refusal>) -> u8 {
     match answer {
-        Ok(words) => {
-            let [a, b, c, d] = words;
-            write!(out, "0 {a} {b} {c} {d}")
-        }
-        Err(refusal) => write!(out, "{} 0 0 0 0", refusal.number()),
+        Ok(_) => 0,
+        Err(refusal) => refusal.number(),
     }
+}
+
+/// The number of refusal and four words: for any answer, since the recorded lines hold them so.
+pub(crate) fn put(out: &mut impl Write, answer: Result<[u64; 4], Refusal>) -> io::Result<()> {
+    let [a, b, c, d] = answer.unwrap_or([0; 4]);
+    write!(out, "{} {a} {b} {c} {d}", number_of(answer))
 }
 
 /// The bytes as pairs of hex digits, `-` for none.

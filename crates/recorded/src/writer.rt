@@ -10,7 +10,8 @@ use std::io::{SeekFrom, Write};
 
 /// Answers the line, if it is one of a writer. The buffers are lent at the sizes that the opening named.
 pub(crate) fn line(out: &mut impl Write, desk: &mut Desk<'_>, line: &[u8]) -> io::Result<bool> {
-    if let b"open" = text::word(line, 0) {
+    // one test by itself: an opening is no `Call`, of which `called` tells by one `match`
+    if text::same(text::word(line, 0), b"open") {
         open(out, desk, line)?;
         return Ok(true);
     }

@@ -1,5 +1,5 @@
 -- What `laws` promises of every reader.
-use Rattle.std.specs.Prelude.{ℕ, ◌+◌, ◌≡◌, ◌≤◌, true, List, [], ◌∷◌, ◌++◌, length, replicate, Bool, Result, Ok, Err}
+use Rattle.std.specs.Prelude.{ℕ, ◌+◌, ◌≡◌, ◌≤◌, true, List, [], ◌∷◌, ◌++◌, length, replicate, Bool, Option, Result, Ok, Err}
 use Rattle.std.specs.Borrow.{Bor}
 use Rattle.lists.specs.All.{All}
 use Rattle.lists.specs.Stream.{part}
@@ -20,7 +20,8 @@ use Rattle.segment_reader.specs.Driver.{recorded, ReadSegmentAllows}
 use Rattle.segment_reader.specs.ReadBack.{all_read}
 use Rattle.segment_reader.specs.Promises.{reply_of, refused_by, no_values, NewAllows, ReadEntryAllows, ReadChunkAllows, ReadAllows, AfterReadAllows, PartAllows, CheckCrcAllows, SkipAllows, ReadAllChunksAllows, VersionInfoAllows}
 use Rattle.segment_reader.specs.PromisesLaws.{seen}
-use Rattle.segment_reader.specs.Step.{step_values, bytes_given, StepAllows}
+use Rattle.segment_reader.specs.Step.{step_values, bytes_given, kind_given, StepAllows}
+use Rattle.segment_reader.specs.Entries.{EntriesNext}
 use Rattle.segment_reader.specs.Held.{HeldOpenAllows, HeldNewAllows, HeldWithStateAllows, HeldBytesAllows, HeldAfterBytesAllows, HeldPartAllows, HeldCheckCrcAllows, HeldEntryAllows, HeldChunkAllows, HeldWholeAllows, FirstWholeAllows, FirstChunksAllows, FirstBytesAllows, FirstCrcAllows}
 use Rattle.segment_reader.specs.declared.SegmentReader.{SegmentReader}
 use Rattle.segment_reader.specs.declared.Part.{Part}
@@ -30,6 +31,7 @@ use Rattle.segment_reader.specs.declared.held.Reader.{Reader}
 use Rattle.segment_reader.specs.declared.held.FirstWhole.{FirstWhole}
 use Rattle.segment_reader.specs.declared.survey.EntryRead.{EntryRead}
 use Rattle.segment_reader.specs.declared.survey.SegmentRead.{SegmentRead}
+use Rattle.segment_reader.specs.declared.entries.Entries.{Entries}
 
 -- 12 and 6 keep the whole state
 abbrev pub RangeAndMomentKeepTheReader : Type 0
@@ -97,12 +99,15 @@ pub record CallsHaveOneAnswer : Type 0 where
   pub skip : (r : SegmentReader) (image : List ℕ) → OneAnswer (λ s q. SkipAllows r image s q)
   pub read_all_chunks : (r : SegmentReader) (image : List ℕ) → OneAnswer (λ s q. ReadAllChunksAllows r image s q)
   pub version_info : (r : SegmentReader) (image s t : List ℕ) → VersionInfoAllows r image s → VersionInfoAllows r image t → s ≡ t
-  -- a reply by name: what is told, the bytes and the state
+  -- a reply by name: what is told, the bytes, the state, and the kind
   pub step : (c : code.Call) (r : SegmentReader) (image : List ℕ) (s t : Result Reply Refusal) (p q : SegmentReader) → StepAllows c r image s p → StepAllows c r image t q
-      → (reply_of step_values s ≡ reply_of step_values t) × (bytes_given s ≡ bytes_given t) × (p ≡ q)
+      → (reply_of step_values s ≡ reply_of step_values t) × (bytes_given s ≡ bytes_given t) × (p ≡ q) × (kind_given s ≡ kind_given t)
 
 abbrev pub SurveyHasOneAnswer : Type 0
 SurveyHasOneAnswer = (file : ℕ) (image : List ℕ) (before : List EntryRead) → OneAnswer (λ s after. ReadSegmentAllows file image before s after)
+
+abbrev pub EntriesHaveOneAnswer : Type 0
+EntriesHaveOneAnswer = (s : Entries) (i j : Option EntryRead) (t u : Entries) → EntriesNext s i t → EntriesNext s j u → (i ≡ j) × (t ≡ u)
 
 pub record ThinReaderHasOneAnswer : Type 0 where
   pub opening : (r : Reader) (file : ℕ) → OneAnswer (λ s q. HeldOpenAllows file r s q)

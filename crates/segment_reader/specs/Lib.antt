@@ -18,4 +18,5 @@ pub mod ReadBack
 pub mod Held
 pub mod HeldLaws
 pub mod Entries
+pub mod EntriesLaws
 pub mod Laws

@@ -67,6 +67,11 @@ given (CheckReply right) = a_verdict
 given Skipped = nothing
 given (WholeReply entry) = a_whole
 
+-- what kind of reply an answer is, or the refusal
+abbrev pub kind_given : Result Reply Refusal → Result Kind Refusal
+kind_given (Ok reply) = Ok (given reply)
+kind_given (Err why) = Err why
+
 -- the call's answer and bytes, and of the call's kind
 abbrev pub StepAllows : Call → SegmentReader → List ℕ → Result Reply Refusal → SegmentReader → Type 0
 StepAllows c r image result r' =

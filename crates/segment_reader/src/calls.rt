@@ -32,6 +32,7 @@ impl SegmentReader {
 
     /// The call by its name. Refused as that call is.
     #[tactic(auto, unfolding(crate::specs::Calls::read_by))]
+    #[inline(always)]
     pub fn step<'a>(&mut self, image: &'a [u8], call: Call) -> Result<Reply<'a>, Refusal>
         ensures allows { StepAllows call self.old image.entry.now result self.new }
         ensures kept { IsKept self.old result self.new }

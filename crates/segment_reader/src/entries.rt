@@ -4,8 +4,8 @@ use crate::survey::{EntryRead, verdict_of};
 
 // okw has an iterator of this name too: its items are what it prints, a cut on the way among them.
 /// The entries that a reader meets from its place on, each read whole. It goes on after an aborted entry, a cut and a wrong sum, and ends where the
-/// reading does; the end of the valid bytes is then the reader's `valid_until`. What an item is, is promised where an opening led to the reader; of any
-/// other state only that the image stays.
+/// reading does; the end of the valid bytes is then the reader's `valid_until`. An item, and the reader behind it, are what the reader's calls give, of any
+/// state; where an opening led to the reader, the item is also what the reading finds next.
 #[derive(Clone, Copy, Debug)]
 pub struct Entries<'a> {
     pub reader: Reader<'a>,

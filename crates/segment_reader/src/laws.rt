@@ -1,5 +1,5 @@
 //! What holds of every reader, as contracts: each function is called by nobody and does nothing.
-ghost use Rattle.segment_reader.specs.Laws.{RangeAndMomentKeepTheReader, OpenedStaysInRange, EndedStaysEnded, ReadsAgree, CutsOfAReadingDoNotShow, PiecesGiveAllThatIsToCome, OneReadEnds, SegmentsAreReadBack, RefusalsHaveTheirNumbers, CallsHaveOneAnswer, SurveyHasOneAnswer, ThinReaderHasOneAnswer};
+ghost use Rattle.segment_reader.specs.Laws.{RangeAndMomentKeepTheReader, OpenedStaysInRange, EndedStaysEnded, ReadsAgree, CutsOfAReadingDoNotShow, PiecesGiveAllThatIsToCome, OneReadEnds, SegmentsAreReadBack, RefusalsHaveTheirNumbers, CallsHaveOneAnswer, SurveyHasOneAnswer, EntriesHaveOneAnswer, ThinReaderHasOneAnswer};
 
 /// A call that is refused with `OutOfRange` or `NotNow` keeps the whole state.
 pub fn range_and_moment_keep_the_reader()
@@ -54,6 +54,11 @@ pub fn calls_have_one_answer()
 /// The same of `read_segment` and its list.
 pub fn survey_has_one_answer()
     ensures { SurveyHasOneAnswer }
+{}
+
+/// The same of the iterator's items and the readers behind them, whatever the state.
+pub fn entries_have_one_answer()
+    ensures { EntriesHaveOneAnswer }
 {}
 
 /// The same of the thin reader's calls.

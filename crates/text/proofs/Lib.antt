@@ -4,4 +4,3 @@ pub mod Places
 pub mod Numbers
 pub mod Pairs
 pub mod Ranges
-pub mod DigitByDigit

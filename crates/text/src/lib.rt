@@ -1,10 +1,9 @@
 //! What programs read words by: the same text, words of a line, numbers in decimal, bytes as pairs of hex digits. Every function answers any bytes.
 #![tactic(auto)]
 
-ghost use Rattle.std.specs.Prelude.{◌≡◌, ◌≤◌, true, length, drop};
-ghost use Rattle.text.specs.Text.{first, same, behind, place, words_from, word_at, all_digits, decimal, or_zero, hex_digit, UnhexAllows};
-
-use std::str;
+ghost use Rattle.std.specs.Prelude.{◌≡◌, [], ◌∷◌, ◌≤◌, length, drop};
+ghost use Rattle.text.specs.Text.{first, same, behind, place, words_from, word_at, decimal, or_zero, hex_digit, UnhexAllows};
+ghost use Rattle.text.specs.Digits.{decimal_from};
 
 // `first`, `same` and `decimal_or_zero`, a line of std each, are public: laws and one-answers speak of them (`first-one-answer`, `same_true`,
 // `decimal-or-zero-one-answer`).
@@ -19,7 +18,7 @@ pub fn first(s: &[u8], n: usize) -> &[u8]
 }
 
 /// Whether both have the same bytes.
-#[tactic(auto, using(crate::proofs::Sames::equal))]
+#[tactic(auto, using(crate::proofs::Sames::equal, std::proofs::lemmas::List::take_all))]
 pub fn same(a: &[u8], b: &[u8]) -> bool
     ensures { result ≡ same a.now b.now }
 {
@@ -69,29 +68,31 @@ pub fn word(line: &[u8], k: usize) -> &[u8]
     &line[start..end]
 }
 
-fn are_digits(text: &[u8]) -> bool
-    ensures { result ≡ all_digits text.now }
+/// The number with one digit more, where the byte is a digit and the number stays at most 2^64 - 1.
+#[tactic(auto, using(crate::proofs::Numbers::digits))]
+fn with_digit(number: u64, byte: u8) -> Option<u64>
+    ensures { result ≡ decimal_from number (byte ∷ []) }
 {
-    text.iter().all(|byte| byte.is_ascii_digit())
+    match byte {
+        b'0'..=b'9' => number.checked_mul(10)?.checked_add(u64::from(byte - b'0')),
+        _ => None,
+    }
 }
 
-/// What digits stand for, where there are any and it is at most 2^64 - 1.
-fn number_of(digits: &[u8]) -> Option<u64>
-    requires { all_digits digits.now ≡ true }
-    ensures { result ≡ decimal digits.now }
-{
-    str::from_utf8(digits).ok()?.parse().ok()
-}
-
+// Not std's `parse`: it takes a plus, and the whole text would be walked twice before it. This ends at the first byte that is no digit or one too many.
 /// A number in decimal: one digit or more and nothing else, no sign and no space, at most 2^64 - 1. Any bytes get an answer.
-#[tactic(auto, using(crate::proofs::Numbers::no_digits))]
+#[tactic(auto, using(crate::proofs::Numbers::turns))]
 pub fn decimal(text: &[u8]) -> Option<u64>
     ensures { result ≡ decimal text.now }
 {
-    if !are_digits(text) {
+    if text.is_empty() {
         return None;
     }
-    number_of(text)
+    let mut number = 0;
+    for byte in text {
+        number = with_digit(number, *byte)?;
+    }
+    Some(number)
 }
 
 /// The number, 0 where the text is none.
